@@ -304,7 +304,8 @@ is_kind want got = key_kind_tag want == key_kind_tag got
 
 -- The key has to be of the kind that signs this.
 abbrev pub on_kind : KeyKind → KeyKind → Output → Output
-on_kind want got output = if is_kind want got then output else output_of_fault (faults.KeyKind want got)
+on_kind want got output =
+    if is_kind want got then output else output_of_fault (faults.KeyKind want got)
 
 -- What is owed with the key of a file, which has to be of a kind, by what the disk opens to.
 abbrev pub output_with_key :
@@ -357,7 +358,8 @@ abbrev pub output_of : Task → Shown → List ℕ → Output
 output_of tasks.Replay shown given = output_of_schedule given
 output_of (tasks.Verify identity) shown given = output_of_receipt identity given
 output_of (tasks.Audit identity) shown given = output_of_audit (audits_to.verdict identity given)
-output_of (tasks.Keygen kind types) shown given = on_empty shown.len (output_of_seed kind types given)
+output_of (tasks.Keygen kind types) shown given =
+    on_empty shown.len (output_of_seed kind types given)
 output_of (tasks.Deal threshold members) shown given = output_of_dealing threshold members given
 output_of (tasks.Sign signing) shown given = output_of_signing signing shown.opens given
 output_of tasks.Recover shown given = output_of_recovering shown.opens given

@@ -119,7 +119,8 @@ pub fn read_plan<S: Source, D: Disk>(
     disk: D,
 ) -> (Result<Plan, PlanError>, D)
     ensures output { IfOk result.0 (λ plan. OfShown D.honest (D.bytes disk) (λ shown.
-        OfBytes (S.left source.old) (λ given. output_of task.now shown given ≡ output_of_plan plan))) }
+        OfBytes (S.left source.old) (λ given. output_of task.now shown given
+        ≡ output_of_plan plan))) }
     ensures sound { IfOk result.0 (λ plan.
         OfBytes (S.left source.old) (λ given. ShowsAccepted task.now given plan)) }
     ensures ended { IfOk result.0 (λ plan. EndsSource (output_of_plan plan) (S.ended source.new)) }

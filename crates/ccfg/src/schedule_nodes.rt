@@ -91,7 +91,8 @@ impl FileNode {
         requires { has_few_entries event ≡ true }
         ensures steps { IfOk result (λ done.
             Steps StandsOverFile (rule_of event) self.old done self.new) }
-        ensures refused { IfErr result (λ why. Refuses StandsOverFile (rule_of event) self.old why) }
+        ensures refused { IfErr result
+            (λ why. Refuses StandsOverFile (rule_of event) self.old why) }
         ensures err { OnErr result (KeepsAll StandsOverFile self.old self.new) }
     {
         let _core = self.replica.core();

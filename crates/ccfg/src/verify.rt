@@ -20,7 +20,8 @@ use std::alloc::{AllocError, Global};
 #[tactic(auto, unfolding(crate::specs::ExpectedOutput::output_of_receipt))]
 fn receipt_plan(alloc: Global, identity: &HssPublicKey, text: &[u8]) -> Result<Plan, AllocError>
     requires { length text.now ≤ json_limit }
-    ensures output { IfOk result (λ plan. output_of_receipt identity.now text.now ≡ output_of_plan plan) }
+    ensures output { IfOk result (λ plan. output_of_receipt identity.now text.now
+        ≡ output_of_plan plan) }
     ensures sound { IfOk result (λ plan. ShowsAccepted (Verify identity.now) text.now plan) }
     ensures playable { IfOk result (λ plan. PlansPlayable plan) }
 {

@@ -10,8 +10,8 @@ use Rattle.gl_audit.specs.declared.effect.ShareCount.{ShareCount}
 
 -- Memory ran out, which may come at any time, or the request is refused for what the rules say.
 abbrev pub Refuses : Option GovernanceRefusal → OrNoMemory GovernanceRefusal → Type 0
-Refuses expected_output NoMemory = Unit {0}
-Refuses expected_output (Fault why) = expected_output ≡ Some why
+Refuses expected NoMemory = Unit {0}
+Refuses expected (Fault why) = expected ≡ Some why
 
 -- The seqno of the last of these requests, 0 without one.
 abbrev pub seqno_of_request : Option Recorded → ℕ

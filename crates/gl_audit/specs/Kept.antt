@@ -74,5 +74,5 @@ pub record IsWhole (s : LedgerState) : Type 0 where
 
 -- An entry is refused for the first rule that it breaks.
 abbrev pub Breaks : Option Broken → OrNoMemory Broken → Type 0
-Breaks expected_output NoMemory = Unit {0}
-Breaks expected_output (Fault broken) = expected_output ≡ Some broken
+Breaks expected NoMemory = Unit {0}
+Breaks expected (Fault broken) = expected ≡ Some broken

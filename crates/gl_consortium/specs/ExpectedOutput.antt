@@ -156,4 +156,5 @@ in_form (Err fault) = Err (faults.Form fault)
 -- The expected output for a text by a key file that opened to a state, with the next leaf of its
 -- key: what is reported, or the first refusal.
 unfoldable pub expected_output : Signing → Durable → List ℕ → Result (List ℕ) SigningFault
-expected_output signing state text = in_form (read signing text) >>= expected_for state.key state.reserved
+expected_output signing state text = in_form (read signing text)
+    >>= expected_for state.key state.reserved

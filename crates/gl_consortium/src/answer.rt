@@ -129,7 +129,8 @@ pub fn sign<D: Disk>(
     ensures reported { IfOk result.0 (λ reported.
         expected_output signing.now (held file) text.now ≡ Ok reported.items) }
     ensures refused { (fault : SigningFault) → result.0 ≡ Err (OrNoMemory.Fault fault) →
-        (fault ≡ SigningFault.DiskFailed → ⊥) → expected_output signing.now (held file) text.now ≡ Err fault }
+        (fault ≡ SigningFault.DiskFailed → ⊥) →
+        expected_output signing.now (held file) text.now ≡ Err fault }
 
     // Before anything is told the file keeps that the leaf is spent, whatever comes.
     ensures kept { IsTrue D.honest → IfOk result.0 (λ reported.

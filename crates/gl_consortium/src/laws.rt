@@ -18,7 +18,8 @@ pub fn law_of_signing()
     ensures refusals { (g : Genesis) (why : GovernanceRefusal) →
         genesis_refusal no_history g ≡ Some why → IsOfFounding why }
     ensures endorsed { (state : Durable) (text reported : List ℕ) →
-        expected_output Signing.Endorsement state text ≡ Ok reported → IsEndorsement state.key reported }
+        expected_output Signing.Endorsement state text ≡ Ok reported →
+        IsEndorsement state.key reported }
     ensures opens { (state : Durable) (text reported : List ℕ) →
         expected_output Signing.Opening state text ≡ Ok reported → IsOpening state.key reported }
     ensures signed { (identity : List ℕ) (number : ℕ) (state : Durable) (text reported : List ℕ) →

@@ -77,7 +77,8 @@ campaign_if_allowed me last active others rose p =
     else Ok (campaign me last active others (p.view + 1)))
     else idle rose p
 
-abbrev pub timeout_as : Role → NodeId → TxId → List (List NodeId) → List NodeId → Bool → Peer → ElectionStep
+abbrev pub timeout_as : Role → NodeId → TxId → List (List NodeId) → List NodeId → Bool → Peer →
+    ElectionStep
 timeout_as Leader me last active others rose p = idle rose p
 timeout_as Candidate me last active others rose p = campaign_if_allowed me last active others rose p
 timeout_as Follower me last active others rose p = campaign_if_allowed me last active others rose p
@@ -153,7 +154,8 @@ at_vote_reply active y view granted p =
 
 -- A leader's wish that this node campaign: a timeout, unless the view is before the peer's. Where
 -- the event is refused, a later view isn't entered either.
-abbrev pub at_propose_vote : NodeId → TxId → List (List NodeId) → List NodeId → ℕ → Peer → ElectionStep
+abbrev pub at_propose_vote : NodeId → TxId → List (List NodeId) → List NodeId → ℕ → Peer →
+    ElectionStep
 at_propose_vote me last active others view p =
     if nat_lt view p.view
     then idle false p

@@ -152,7 +152,8 @@ pub(crate) fn trust_count(changes: &[Changed]) -> usize
 /// How many of the changes take nodes out of service.
 pub(crate) fn retirement_count(changes: &[Changed]) -> usize
     ensures { result
-        ≡ count_by (λ (c : a_change.Changed). is_some (retirement_in c.seqno c.change)) changes.now }
+        ≡ count_by (λ (c : a_change.Changed). is_some (retirement_in c.seqno c.change))
+            changes.now }
 {
     changes
         .iter()

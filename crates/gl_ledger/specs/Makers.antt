@@ -68,14 +68,16 @@ abbrev pub governance_made : List Entry → GovernanceRequest → Entry → Entr
 governance_made ledger g e = (e, Governed (status_after ledger g))
 
 -- What a request of governance makes that is accepted, within the limits of bodies and seqnos.
-abbrev pub governed_within : List Entry → GovernanceRequest → Entry → Result (Entry × Response) Rejection
+abbrev pub governed_within : List Entry → GovernanceRequest → Entry →
+    Result (Entry × Response) Rejection
 governed_within ledger g e =
     by_store (within_size (length (body_bytes e))
     (within_seqnos ledger (governance_made ledger g e)))
 
 -- What a request of governance makes that founds no service: first it may be refused for what it
 -- asks, then for its size, then for want of a seqno.
-abbrev pub accepted_result : List Entry → ℕ → GovernanceRequest → Result (Entry × Response) Rejection
+abbrev pub accepted_result : List Entry → ℕ → GovernanceRequest →
+    Result (Entry × Response) Rejection
 accepted_result ledger view g =
     unless_refused (refusal (history (requests_of ledger)) (length ledger + 1) g)
     (governed_within ledger g (governance_entry g ledger view))
@@ -101,7 +103,8 @@ unless_broken (Some why) made = Err (ByRule why)
 
 module _ (layers : Layers) where
   -- What was made, unless its entry breaks a rule.
-  abbrev pub guarded : {X : Type 0} → (X → Entry) → List Entry → Result X Rejection → Result X Rejection
+  abbrev pub guarded : {X : Type 0} → (X → Entry) → List Entry → Result X Rejection →
+      Result X Rejection
   guarded entry_of ledger (Ok made) = unless_broken (broken layers ledger (entry_of made)) made
   guarded entry_of ledger (Err why) = Err why
 

@@ -63,7 +63,8 @@ fn first_place(text: &[u8], byte: u8) -> Option<usize>
 
 /// A text up to the first such byte, and what stands after that byte, if the text has one.
 pub(crate) fn cut(text: &[u8], byte: u8) -> (&[u8], Option<&[u8]>)
-    ensures { cut byte text.now ≡ record { prefix = result.0.now; suffix = option_copied result.1 } }
+    ensures { cut byte text.now
+        ≡ record { prefix = result.0.now; suffix = option_copied result.1 } }
 {
     match first_place(text, byte) {
         None => (text, None),

@@ -49,7 +49,8 @@ fn turn<D: Disk, B: KeptBook>(
 ) -> Result<Done<B>, NodeFault<B>>
     requires serving { IsServing B.stands B.ledger B.goes_on D.honest D.bytes D.past core.old
         journal.old }
-    requires turned { Reports B.stands core.old (λ b x n. IsTurned n (rule_of event.now b x n).node) }
+    requires turned { Reports B.stands core.old
+        (λ b x n. IsTurned n (rule_of event.now b x n).node) }
     ensures { Comes B.stands B.ledger B.goes_on D.honest D.bytes D.past D.faults
         (rule_of event.now) core.old journal.old result core.new journal.new }
 {

@@ -17,7 +17,8 @@ pub(crate) fn step_core<B: KeptBook>(
     core: &mut Core<B>,
     event: &Event<B>,
 ) -> Result<Done<B>, Refusal<B>>
-    ensures steps { IfOk result (λ done. Steps B.stands (rule_of event.now) core.old done core.new) }
+    ensures steps { IfOk result
+        (λ done. Steps B.stands (rule_of event.now) core.old done core.new) }
     ensures refused { IfErr result (λ why. Refuses B.stands (rule_of event.now) core.old why) }
     ensures err { OnErr result (KeepsAll B.stands core.old core.new) }
     ensures fit { All (λ e. IsTrue (is_entry e)) (B.ledger core.new.book) }

@@ -69,7 +69,8 @@ impl FormError {
 
     /// The fault of a member of an element of the proof, or running out of memory.
     pub(crate) fn in_step(self, alloc: Global, index: u64, names: &[&str]) -> OrNoMemory<FormsFault>
-        ensures { IsReportedAs result (fault_at (step_path index (map (λ s. s.now) names.now)) self) }
+        ensures { IsReportedAs result
+            (fault_at (step_path index (map (λ s. s.now) names.now)) self) }
     {
         match step_path(alloc, index, names) {
             Ok(path) => OrNoMemory::Fault(self.report(path)),

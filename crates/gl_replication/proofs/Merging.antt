@@ -25,9 +25,9 @@ use Rattle.gl_replication.proofs.Cuts.{take_part}
 pub rest_is : {E : Type 0} (held : ℕ) (es : List E) → take (length es - held) (drop held es) ≡ drop held es
 rest_is held es = take_past (length es - held) (drop held es) (omega (arith, length-drop held es))
 
-pub expected_output : {X F : Type 0} (r : Result X F) (e : OrNoMemory F) (why : F) → e ≡ rejected.Fault why → Fails e r → r ≡ Err why
-expected_output r rejected.NoMemory why is k = absurd (cc)
-expected_output r (rejected.Fault w) why is k = let z : w ≡ why = cc in k ∙ ap Err z
+pub expected : {X F : Type 0} (r : Result X F) (e : OrNoMemory F) (why : F) → e ≡ rejected.Fault why → Fails e r → r ≡ Err why
+expected r rejected.NoMemory why is k = absurd (cc)
+expected r (rejected.Fault w) why is k = let z : w ≡ why = cc in k ∙ ap Err z
 
 module _ {E Q G R A F : Type 0} (b : Book E Q G R A F) (y : NodeId) (view : ℕ) (n : Node E) (low : n.view ≤ view) where
   abbrev f : Node E

@@ -355,7 +355,8 @@ impl<B: Book> Core<B> {
     /// Up to which seqno the log stays as it is when a leader's entries are taken, by whomever they
     /// are sent.
     pub fn kept_upto(&self, view: u32, prev: TxId, entries: &[Entry]) -> u64
-        ensures { Reports B.stands self.now (λ b x n. (from : NodeId) (commit : ℕ) → KeepsUpTo result
+        ensures { Reports B.stands self.now
+            (λ b x n. (from : NodeId) (commit : ℕ) → KeepsUpTo result
             entries.now n (on_message b (message_to x from view (Append (position prev)
             entries.now commit)) n)) }
     {

@@ -44,7 +44,8 @@ Prints number effect old new before after =
 -- The same whatever the number of the line.
 abbrev pub PrintsAnywhere : (Settings → Output → Effect) → Playing → Playing → List ℕ → List ℕ →
     Type 0
-PrintsAnywhere effect old new before after = (number : ℕ) → Prints number effect old new before after
+PrintsAnywhere effect old new before after =
+    (number : ℕ) → Prints number effect old new before after
 
 -- ---- events
 

@@ -43,7 +43,8 @@ refusal_answer_body (Some why) = reason_answer_body (reason_of why)
 -- A receipt is reported as its JSON, unless that has more than 1 MiB, which no answer carries.
 abbrev pub json_answer_body : List ℕ → AnswerBody
 json_answer_body json =
-    if is_within json then content.ReceiptIs json else reason_answer_body (numbers 119 (length json ∷ []))
+    if is_within json then content.ReceiptIs json
+    else reason_answer_body (numbers 119 (length json ∷ []))
 
 -- Why there is no receipt: the transaction has this status, or the ledger is committed up to here.
 abbrev pub make_reason : MakeFault → Reason
@@ -58,7 +59,8 @@ receipt_answer_body (Err fault) = reason_answer_body (make_reason fault)
 
 -- Nothing is sent but an answer to who asked.
 abbrev pub answers : ℕ → AnswerBody → Outcome
-answers number reported = outcomes.Done [] (Some (record { number = number; content = reported })) false
+answers number reported =
+    outcomes.Done [] (Some (record { number = number; content = reported })) false
 
 -- Nothing is sent.
 abbrev pub nothing : Outcome

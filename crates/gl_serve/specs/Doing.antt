@@ -59,8 +59,10 @@ pub record Moment (S : Type 0) : Type 0 where
 abbrev pub session_state_after : SessionState → Outcome → SessionState
 session_state_after session_state (outcomes.Done messages answer heard) =
     record session_state { idle = if heard then 0 else session_state.idle }
-session_state_after session_state outcomes.Stopped = record session_state { over = Some halts.Stopped }
-session_state_after session_state outcomes.NoMemory = record session_state { over = Some halts.NoMemory }
+session_state_after session_state outcomes.Stopped =
+    record session_state { over = Some halts.Stopped }
+session_state_after session_state outcomes.NoMemory =
+    record session_state { over = Some halts.NoMemory }
 
 -- An event of the node, for which this was noted: its lines are those of its outcome.
 pub record Event {S : Type 0} (peers : List (List ℕ)) (asker : Option ℕ)
@@ -95,7 +97,8 @@ Waits rules settings m false lines now =
 -- A tick begins: whether the node leads is noted.
 abbrev pub Beats : {S Payload : Type 0} → Rules S Payload → Serving → Moment S → Bool →
     List Line → Moment S → Type 0
-Beats rules settings m true lines now = Idles m (record m.session_state { leading = true }) lines now
+Beats rules settings m true lines now =
+    Idles m (record m.session_state { leading = true }) lines now
 Beats rules settings m false lines now =
     Waits rules settings m (nat_le settings.ticks (m.session_state.idle + 1)) lines now
 
@@ -123,6 +126,7 @@ abbrev pub Does : {S Payload : Type 0} → Rules S Payload → Serving → Momen
     List (List Line) → Moment S → Type 0
 Does rules settings m [] content now = (content ≡ []) × (now ≡ m)
 Does {S} rules settings m (work ∷ more) content now =
-    (m.session_state.over ≡ None) × (next : Moment S) × (lines : List Line) × (others : List (List Line))
+    (m.session_state.over ≡ None) × (next : Moment S) × (lines : List Line) ×
+        (others : List (List Line))
     × One rules settings m work lines next × (content ≡ lines ∷ others)
     × Does rules settings next more others now

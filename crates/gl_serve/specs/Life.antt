@@ -89,7 +89,8 @@ module _ {D S : Type 0} (stands : S → ServiceBook → Holding Entry → Type 0
   -- Whatever a serve does at its node, over an honest link or another, is such events.
   abbrev pub ServesByEvents : Type 0
   ServesByEvents =
-      (reported : Bool) (settings : Serving) (first last : NodeSeen D S) (before after : List Exchange)
+      (reported : Bool) (settings : Serving) (first last : NodeSeen D S)
+      (before after : List Exchange)
       (ahead left : List Arrival) (result : Result (ℕ × ℕ) ServeEnd) →
       Serves reported (serving_rules stands goes_on honest bytes past faults) settings
       first before ahead last after left result →

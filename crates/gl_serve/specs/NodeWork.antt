@@ -43,7 +43,8 @@ module _ {D S : Type 0} (stands : S → ServiceBook → Holding Entry → Type 0
 
   -- A node that has stopped answers nothing. Of what any other tells this holds, whichever node of
   -- the rules it stands for.
-  abbrev pub Report : Option ℕ → NodeSeen D S → ℕ → (ServiceBook → Node Entry → AnswerBody → Type 0) →
+  abbrev pub Report : Option ℕ → NodeSeen D S → ℕ →
+      (ServiceBook → Node Entry → AnswerBody → Type 0) →
       Outcome → Type 0
   Report (Some count) old number Due outcome = outcome ≡ outcomes.Stopped
   Report None old number Due outcome =
@@ -52,7 +53,8 @@ module _ {D S : Type 0} (stands : S → ServiceBook → Holding Entry → Type 0
       × (outcome ≡ answers number reported)
 
   -- A question changes nothing.
-  abbrev pub Questions : NodeSeen D S → ℕ → (ServiceBook → Node Entry → AnswerBody → Type 0) → Outcome →
+  abbrev pub Questions : NodeSeen D S → ℕ → (ServiceBook → Node Entry → AnswerBody → Type 0) →
+      Outcome →
       NodeSeen D S → Type 0
   Questions old number Due outcome new =
       Report old.stopped old number Due outcome × (new ≡ old)
@@ -66,12 +68,14 @@ module _ {D S : Type 0} (stands : S → ServiceBook → Holding Entry → Type 0
   Asks old number (asks.Govern request) outcome new =
       Comes (events.Govern request) old new (λ result. Answers number result outcome)
   Asks old number (asks.StatusOf id) outcome new =
-      Questions old number (λ b n reported. reported ≡ content.StatusIs (reported_status b n id)) outcome new
+      Questions old number (λ b n reported. reported
+          ≡ content.StatusIs (reported_status b n id)) outcome new
   Asks old number (asks.ReceiptOf id) outcome new =
       Questions old number
       (λ b n. Says (receipt_answer_body (receipt_of (receipts_of n.log n.commit) id))) outcome new
   Asks old number (asks.SnapshotPart offset) outcome new =
-      Questions old number (λ b n. Says (reason_answer_body (numbers 81 (n.commit ∷ [])))) outcome new
+      Questions old number (λ b n. Says (reason_answer_body (numbers 81 (n.commit ∷ []))))
+          outcome new
 
   -- A peer's message is its event. Whatever a client asks is answered once, under its number.
   abbrev pub Handles : NodeSeen D S → Payload → Outcome → NodeSeen D S → Type 0

@@ -32,7 +32,8 @@ course_of_turn (Err session_error) = Err session_error
 pub record Turned {S Payload : Type 0} (honest : Bool) (rules : Rules S Payload)
     (settings : Serving)
     (before : List Arrival) (from : Stand S) (ahead : List Arrival) (to : Stand S)
-    (now_ahead : List Arrival) (kept : ℕ → Stream) (result : Result Progress SessionError) : Type 0 where
+    (now_ahead : List Arrival) (kept : ℕ → Stream) (result : Result Progress SessionError)
+    : Type 0 where
   pub came : List Arrival
   pub went : Went honest rules settings from (script settings.peers.now before came) came to
       (course_of_turn result)

@@ -32,7 +32,8 @@ fn finish<L: Link>(
     ensures some { OnErr result
         (SendsSome L.honest (L.past link.old) session.old.lost (L.past link.new) session.new.lost
         (lines_of settings.now.peers.now asker outcome)) }
-    ensures session_state { session.new.session_state ≡ session_state_after session.old.session_state outcome }
+    ensures session_state { session.new.session_state
+        ≡ session_state_after session.old.session_state outcome }
     ensures going { OnOk result (session.new.session_state.over ≡ None) }
     ensures end { (end : SessionError) → result ≡ Err end →
         is_stopped session.new.session_state.over ≡ is_stop end }

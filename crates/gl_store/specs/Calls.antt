@@ -46,13 +46,14 @@ pub record Governs (old : Held) (view : ℕ) (g : GovernanceRequest) (id : TxId)
 
 -- A refusal is the expected one; memory may run out at any time.
 abbrev pub Refuses : {X : Type 0} → Result X Rejection → OrNoMemory Refusal → Type 0
-Refuses expected_output NoMemory = Unit {0}
-Refuses expected_output (Fault why) = expected_output ≡ Err (ByStore why)
+Refuses expected NoMemory = Unit {0}
+Refuses expected (Fault why) = expected ≡ Err (ByStore why)
 
 -- Entries are refused from the first on that breaks a rule, which has this seqno.
 abbrev pub StopsAt : ℕ → Option LedgerFault → OrNoMemory Broken → Type 0
-StopsAt seqno expected_output NoMemory = Unit {0}
-StopsAt seqno expected_output (Fault broken) = expected_output ≡ Some (record { seqno = seqno; broken = broken })
+StopsAt seqno expected NoMemory = Unit {0}
+StopsAt seqno expected (Fault broken) =
+    expected ≡ Some (record { seqno = seqno; broken = broken })
 
 -- The store holds an opening ledger, which a node signed, all of it committed.
 pub record Opens (entries : List Entry) (held : Held) : Type 0 where

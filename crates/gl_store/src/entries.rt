@@ -98,7 +98,7 @@ pub(crate) fn application_entry(
 pub(crate) fn governance_limit_passed(body_len: u64, seqno: u64) -> Option<Refusal>
     ensures body { IfNone result (body_len ≤ body_limit) }
     ensures seqno { IfNone result (seqno ≤ last_seqno) }
-    ensures expected_output { IfSome result (λ refusal. (ledger : List made.Entry)
+    ensures expected { IfSome result (λ refusal. (ledger : List made.Entry)
         (g : GovernanceRequest) (e : made.Entry) →
         body_len ≡ length (body_bytes e) → seqno ≡ length ledger + 1 →
         governed_within ledger g e ≡ Err (ByStore refusal)) }
@@ -117,7 +117,7 @@ pub(crate) fn limit_passed(body_len: u64, reply: &[u8], seqno: u64) -> Option<Re
     ensures body { IfNone result (body_len ≤ body_limit) }
     ensures reply { IfNone result (length reply.now ≤ body_limit) }
     ensures seqno { IfNone result (seqno ≤ last_seqno) }
-    ensures expected_output { IfSome result (λ refusal.
+    ensures expected { IfSome result (λ refusal.
         (ledger : List made.Entry) (e : made.Entry) (answers : List Answer) →
         body_len ≡ length (body_bytes e) → reply.now ≡ reply_bytes answers → seqno
         ≡ length ledger + 1 →

@@ -29,8 +29,8 @@ opened_entry keys old ledger g e held founded made =
 pub never_broken : (keys : NodeKeys) (ledger : List Entry) (g : request.Genesis) (x : NodeId) (e : Entry) (b : Broken) → Founds service_layers keys g x → ledger ≡ genesis_entry g ∷ [] →
     e ≡ signed_entry keys x 0 (genesis_entry g ∷ []) 2 2 → broken service_layers ledger e ≡ Some b → ⊥
 never_broken keys ledger g x e b h founded is wrong =
-    let expected_output : broken service_layers ledger e ≡ None = ap₂ (broken service_layers) founded is ∙ opening_follows keys g x h in
-    let none : Some b ≡ None = sym wrong ∙ expected_output in
+    let expected : broken service_layers ledger e ≡ None = ap₂ (broken service_layers) founded is ∙ opening_follows keys g x h in
+    let none : Some b ≡ None = sym wrong ∙ expected in
     cc
 
 -- so the ledger is the opening one

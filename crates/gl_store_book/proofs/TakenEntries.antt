@@ -43,20 +43,20 @@ untouched None made none = refl
 untouched (Some why) made none = absurd (cc)
 
 -- what is refused without a trial is refused
-pub refused_first : {F : Type 0} (entry_of : F → Entry) (ledger : List Entry) (e : OrNoMemory Rejection) (expected_output : Result F Rejection) → Fails e expected_output →
-    Fails e (guarded service_layers entry_of ledger expected_output)
-refused_first entry_of ledger NoMemory expected_output h = tt
-refused_first entry_of ledger (Fault why) expected_output h = ap (guarded service_layers entry_of ledger) h
+pub refused_first : {F : Type 0} (entry_of : F → Entry) (ledger : List Entry) (e : OrNoMemory Rejection) (expected : Result F Rejection) → Fails e expected →
+    Fails e (guarded service_layers entry_of ledger expected)
+refused_first entry_of ledger NoMemory expected h = tt
+refused_first entry_of ledger (Fault why) expected h = ap (guarded service_layers entry_of ledger) h
 
 -- what breaks a rule is refused for it
 broken_so : {F : Type 0} (o : Option Broken) (why : Rejection) (made : F) → by_rule o ≡ Some why → unless_broken o made ≡ Err why
 broken_so None why made h = absurd (cc)
 broken_so (Some b) why made h = let k : ByRule b ≡ why = cc in ap Err k
 
-pub refused_by_rule : {F : Type 0} (entry_of : F → Entry) (ledger : List Entry) (e : OrNoMemory Rejection) (made : F) (expected_output : Result F Rejection) → expected_output ≡ Ok made →
-    RefusesFor (broken service_layers ledger (entry_of made)) e → Fails e (guarded service_layers entry_of ledger expected_output)
-refused_by_rule entry_of ledger NoMemory made expected_output is h = tt
-refused_by_rule entry_of ledger (Fault why) made expected_output is h =
+pub refused_by_rule : {F : Type 0} (entry_of : F → Entry) (ledger : List Entry) (e : OrNoMemory Rejection) (made : F) (expected : Result F Rejection) → expected ≡ Ok made →
+    RefusesFor (broken service_layers ledger (entry_of made)) e → Fails e (guarded service_layers entry_of ledger expected)
+refused_by_rule entry_of ledger NoMemory made expected is h = tt
+refused_by_rule entry_of ledger (Fault why) made expected is h =
     ap (guarded service_layers entry_of ledger) is ∙ broken_so (broken service_layers ledger (entry_of made)) why made h
 
 abbrev pub entry_made : Entry × Response → Entry

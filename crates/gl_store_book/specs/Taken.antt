@@ -33,13 +33,14 @@ governed ledger view g =
 
 -- A refusal for the rule that is broken; memory may run out at any time.
 abbrev pub RefusesFor : Option Broken → OrNoMemory Rejection → Type 0
-RefusesFor expected_output NoMemory = Unit {0}
-RefusesFor expected_output (Fault why) = by_rule expected_output ≡ Some why
+RefusesFor expected NoMemory = Unit {0}
+RefusesFor expected (Fault why) = by_rule expected ≡ Some why
 
 -- The ledger has one more entry, of this view, which was owed with this answer.
-pub record Takes (expected_output : Result (Entry × Response) Rejection) (view : ℕ) (given : Response)
+pub record Takes (expected : Result (Entry × Response) Rejection) (view : ℕ)
+    (given : Response)
     (old new : List Entry) : Type 0 where
   pub entry : Entry
-  pub made : expected_output ≡ Ok (entry, given)
+  pub made : expected ≡ Ok (entry, given)
   pub in_view : entry.view ≡ view
   pub entered : new ≡ old ++ entry ∷ []

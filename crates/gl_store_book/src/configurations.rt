@@ -48,7 +48,8 @@ fn last_nodes(configurations: &[Configuration]) -> &[NodeId]
 /// How many of the configurations begin at or below a seqno.
 pub(crate) fn count_upto(configurations: &[Configuration], seqno: u64) -> usize
     ensures { result
-        ≡ count_by (λ (c : a_configuration.Configuration). nat_le c.seqno seqno) configurations.now }
+        ≡ count_by (λ (c : a_configuration.Configuration). nat_le c.seqno seqno)
+            configurations.now }
 {
     configurations
         .iter()

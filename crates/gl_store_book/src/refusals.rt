@@ -15,8 +15,9 @@ use gl_ledger::{Broken, Refusal, Rejection};
 
 /// A store refuses it.
 pub(crate) fn by_store(error: OrNoMemory<Refusal>) -> OrNoMemory<Rejection>
-    ensures { (expected_output : Result (Entry × givens.Response) unmades.Rejection) → Refuses expected_output error →
-        Fails result expected_output }
+    ensures { (expected : Result (Entry × givens.Response) unmades.Rejection) →
+        Refuses expected error →
+        Fails result expected }
 {
     match error {
         OrNoMemory::NoMemory => OrNoMemory::NoMemory,

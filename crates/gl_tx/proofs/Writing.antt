@@ -52,10 +52,10 @@ length-put (Ok x) old new w put = rw put (length-with_write old w)
 length-put (Err e) old new w put = tt
 
 -- what holds of a set before a put and of the expected set holds after the put
-pub after_put : {E : Type 0} (P : List Write → Type 0) (r : Result (Unit {0}) E) (old expected_output new : List Write) →
-    OnOk r (new ≡ expected_output) → OnErr r (new ≡ old) → P old → P expected_output → P new
-after_put P (Ok x) old expected_output new put kept before after = subst P (sym put) after
-after_put P (Err e) old expected_output new put kept before after = subst P (sym kept) before
+pub after_put : {E : Type 0} (P : List Write → Type 0) (r : Result (Unit {0}) E) (old expected new : List Write) →
+    OnOk r (new ≡ expected) → OnErr r (new ≡ old) → P old → P expected → P new
+after_put P (Ok x) old expected new put kept before after = subst P (sym put) after
+after_put P (Err e) old expected new put kept before after = subst P (sym kept) before
 
 -- What a run gives on tables it gives on the finite map that the writes make for which they stand.
 pub run-stands : (r : Result Ran (OrNoMemory Abort)) (os : List Operation) (t : Kept) (ps : List Placed) → StandsFor t ps →

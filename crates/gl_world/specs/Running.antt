@@ -42,7 +42,8 @@ module _ {N S : Type 0} (stands : StandsAs N) where
   abbrev pub Moves : Event → Nodes N S → Outcome Response → Nodes N S → Type 0
   Moves event old outcome new = Of old (λ s w. is_among (node_ids s) w.sent event ≡ true →
       IsRunning s new (happens (book_of s) w (seen_event s event)).world
-      × (seen_outcome {F = Rejection} outcome ≡ (happens (book_of s) w (seen_event s event)).outcome))
+      × (seen_outcome {F = Rejection} outcome
+          ≡ (happens (book_of s) w (seen_event s event)).outcome))
 
   -- It is refused so in each of them.
   abbrev pub Denies : Event → Nodes N S → ServiceRefusal S → Type 0

@@ -39,7 +39,8 @@ module _ {N : Type 0} (stands : StandsAs N) where
   OfEach c P = (b : ServiceBook) (x : NodeId) (n : Node Entry) → stands c b x n → P b x n
 
   -- What a step of the rules comes to.
-  pub record Stepped {S : Type 0} (b : ServiceBook) (x : NodeId) (step : Step Entry Response Rejection)
+  pub record Stepped {S : Type 0} (b : ServiceBook) (x : NodeId)
+      (step : Step Entry Response Rejection)
       (done : ServiceDone S) (new : N) : Type 0 where
     pub node : stands new b x step.node
     pub outcome : seen_outcome done.outcome ≡ step.outcome

@@ -101,7 +101,8 @@ pub fn keep_opening<D: Disk>(
         ≡ Some next → Leaves (OpensToOneOf goes_on_ledger state next)
         (D.past journal.old.gated.disk) (D.past journal.new.gated.disk) }
     ensures fits { OnOk result
-        (length (records_bytes (view_vote_records turn.now ++ append_records entries.now)) < 2 ^ 32) }
+        (length (records_bytes (view_vote_records turn.now ++ append_records entries.now))
+            < 2 ^ 32) }
     ensures too_large { (size : ℕ) →
         result ≡ Err (OrNoMemory.Fault (OpeningFault.TooLarge size)) →
         (size ≡ length (records_bytes (view_vote_records turn.now ++ append_records entries.now)))
@@ -110,9 +111,11 @@ pub fn keep_opening<D: Disk>(
         error ≢ OrNoMemory.Fault (OpeningFault.Journal JournalFault.DiskFault) →
         (D.bytes journal.new.gated.disk ≡ D.bytes journal.old.gated.disk)
         × (D.past journal.new.gated.disk ≡ D.past journal.old.gated.disk) }
-    ensures disk_fault { result ≡ Err (OrNoMemory.Fault (OpeningFault.Journal JournalFault.DiskFault)) →
+    ensures disk_fault { result ≡
+        Err (OrNoMemory.Fault (OpeningFault.Journal JournalFault.DiskFault)) →
         Rose (D.faults journal.old.gated.disk) (D.faults journal.new.gated.disk) }
-    ensures no_disk_fault { result ≢ Err (OrNoMemory.Fault (OpeningFault.Journal JournalFault.DiskFault)) →
+    ensures no_disk_fault { result ≢
+        Err (OrNoMemory.Fault (OpeningFault.Journal JournalFault.DiskFault)) →
         D.faults journal.new.gated.disk ≡ D.faults journal.old.gated.disk }
     ensures only { (fault : OpeningFault) → result ≡ Err (OrNoMemory.Fault fault) →
         (fault ≡ OpeningFault.Journal JournalFault.DiskFault)
@@ -164,11 +167,14 @@ pub(crate) fn keep_start<D: Disk>(
         error ≢ OrNoMemory.Fault (OpeningFault.Journal JournalFault.DiskFault) →
         (D.bytes journal.new.gated.disk ≡ D.bytes journal.old.gated.disk)
         × (D.past journal.new.gated.disk ≡ D.past journal.old.gated.disk) }
-    ensures disk_fault { result ≡ Err (OrNoMemory.Fault (OpeningFault.Journal JournalFault.DiskFault)) →
+    ensures disk_fault { result ≡
+        Err (OrNoMemory.Fault (OpeningFault.Journal JournalFault.DiskFault)) →
         Rose (D.faults journal.old.gated.disk) (D.faults journal.new.gated.disk) }
-    ensures no_disk_fault { result ≢ Err (OrNoMemory.Fault (OpeningFault.Journal JournalFault.DiskFault)) →
+    ensures no_disk_fault { result ≢
+        Err (OrNoMemory.Fault (OpeningFault.Journal JournalFault.DiskFault)) →
         D.faults journal.new.gated.disk ≡ D.faults journal.old.gated.disk }
-    ensures opening_first { result ≡ Err (OrNoMemory.Fault (OpeningFault.Journal JournalFault.DiskFault)) →
+    ensures opening_first { result ≡
+        Err (OrNoMemory.Fault (OpeningFault.Journal JournalFault.DiskFault)) →
         IsOk (start_in bytes.now) }
     ensures only { (fault : OpeningFault) → result ≡ Err (OrNoMemory.Fault fault) →
         IsOfOpening fault }

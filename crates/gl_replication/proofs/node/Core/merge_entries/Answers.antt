@@ -6,7 +6,7 @@ use Rattle.gl_entry.specs.declared.entry.Entry.{Entry}
 use Rattle.gl_election.specs.Bridge.{seen_message}
 use Rattle.gl_replication.specs.Stands.{seen_outcome}
 use Rattle.gl_replication.specs.Stands.{Stepped}
-use Rattle.gl_replication.proofs.Merging.{rest_is, expected_output, all_held, below_commit, some_new, accepted, view_is, low_of, commit_of}
+use Rattle.gl_replication.proofs.Merging.{rest_is, expected, all_held, below_commit, some_new, accepted, view_is, low_of, commit_of}
 use Rattle.gl_replication.proofs.node.Core.merge_entries.Goals as goal
 
 pub replace_tail-requires-clause-within : goal.replace_tail-requires-clause-within
@@ -38,7 +38,7 @@ returns-in-Err-Fault-clause-refused g c = λ b x n s.
     (some_new b c.args.y c.args.view n low x c.args.len c.args.prev c.args.entries.now c.args.held c.args.theirs h.0 h.1 c.if-held-entries.false
     (ap (λ k. nat_lt (c.args.prev + c.args.held) c.args.len && nat_lt (c.args.prev + c.args.held) k) (sym (commit_of g.B.Book.stands s)) ∙ sym c.is_cut_below.ensures ∙ c.if-is_cut_below.false)
     c.requires.within.0 (Err c.in-Err-Fault.why)
-    (ap (checked_append b (take (c.args.prev + c.args.held) n.log)) (sym (rest_is c.args.held c.args.entries.now)) ∙ expected_output _ c.in-Err-Fault.field-0 c.in-Err-Fault.why (search rules) k))
+    (ap (checked_append b (take (c.args.prev + c.args.held) n.log)) (sym (rest_is c.args.held c.args.entries.now)) ∙ expected _ c.in-Err-Fault.field-0 c.in-Err-Fault.why (search rules) k))
 
 pub returns-clause-steps : goal.returns-clause-steps
 returns-clause-steps g c = λ b x n s.

@@ -1,9 +1,7 @@
 -- What a receipt shows of a ledger to whose root it leads.
-use Rattle.std.proofs.Common.{◌≡◌, ◌≢◌, ◌⊎◌, ℕ, zero, suc, ◌-◌, ◌^◌, ◌<◌, nat_lt, nat_le, true, ◌&&◌, ◌||◌, List, [], ◌++◌, length, take, slice_get, Some, refl, sym, ap, ap₂, subst, ◌∙◌, arith, inl, inr, All, Contains}
-use Rattle.std.specs.List.{list_all}
+use Rattle.std.proofs.Common.{◌≡◌, ◌≢◌, ◌⊎◌, ℕ, zero, suc, ◌-◌, ◌^◌, ◌<◌, true, List, [], ◌++◌, length, take, slice_get, Some, refl, sym, ap, ap₂, subst, ◌∙◌, arith, inl, inr, All, Contains}
 use Rattle.std.specs.Str.{bytes_eq}
-use Rattle.std.proofs.lemmas.Bool.{cases_Bool, both_ways, and_parts, false≢true}
-use Rattle.std.proofs.lemmas.Bool.Decides.{nat_tests}
+use Rattle.std.proofs.lemmas.Bool.{cases_Bool, both_ways, false≢true}
 use Rattle.std.proofs.lemmas.List.{length-take-le, take-take}
 use Rattle.std.proofs.lemmas.List.Elements.{All-contains, Contains-append_left, Contains-append_right}
 use Rattle.std.proofs.lemmas.Slice.Eq.{bytes_eq-Decides}
@@ -17,14 +15,13 @@ use Rattle.gl_merkle.specs.Reach.{IsDigest, sibling_of, inputs_on, inputs_of, Is
 use Rattle.gl_merkle.specs.Tree as merkle
 use Rattle.gl_merkle.proofs.ReachLemmas.{reached}
 use Rattle.gl_vmaps.specs.Tables.{no_tables}
-use Rattle.gl_vmaps.specs.Writes.{is_write, is_ordered}
-use Rattle.gl_entry.specs.Entry.{is_entry, is_content, may_write, may_claim, are_no_writes, is_no_digest, body_bytes, body_limit}
-use Rattle.gl_base.specs.Bytes.{is_digest}
+use Rattle.gl_entry.specs.Entry.{is_entry}
 use Rattle.gl_entry.specs.Leaf.{id_of, evidence_text}
 use Rattle.gl_entry.specs.declared.entry.Content.{Content}
 use Rattle.gl_entry.specs.declared.entry.Content.TheVariants as content
 use Rattle.gl_entry.specs.declared.entry.Entry.{Entry}
 use Rattle.gl_entry.specs.declared.entry.Signature as signatures
+use Rattle.gl_entry.proofs.EntryRanges.{fits_parts}
 use Rattle.gl_ledger.specs.ServiceRow.{identity_in}
 use Rattle.gl_ledger.specs.Layers.{Layers}
 use Rattle.gl_ledger.specs.Recordings.{records_founding, recording_of}
@@ -58,25 +55,8 @@ pub record HasRanges (e : Entry) : Type 0 where
 
 pub has_ranges : (e : Entry) → is_entry e ≡ true → HasRanges e
 has_ranges e h =
-    let v = nat_lt e.view (2 ^ 32) in
-    let p = nat_lt e.seqno (2 ^ 64) in
-    let c = is_content e.content in
-    let l = list_all is_write e.writes in
-    let o = is_ordered e.writes in
-    let w = may_write e.content || are_no_writes e.writes in
-    let d = is_digest e.claims in
-    let m = may_claim e.content || is_no_digest e.claims in
-    let a9 = and_parts (v && p && c && l && o && w && d && m) (nat_le (length (body_bytes e)) body_limit) h in
-    let a8 = and_parts (v && p && c && l && o && w && d) m a9.0 in
-    let a7 = and_parts (v && p && c && l && o && w) d a8.0 in
-    let a6 = and_parts (v && p && c && l && o) w a7.0 in
-    let a5 = and_parts (v && p && c && l) o a6.0 in
-    let a4 = and_parts (v && p && c) l a5.0 in
-    let a3 = and_parts (v && p) c a4.0 in
-    let a2 = and_parts v p a3.0 in
-    let view : e.view < 2 ^ 32 = grind (arith, nat_tests, a2.0) in
-    let seqno : e.seqno < 2 ^ 64 = grind (arith, nat_tests, a2.1) in
-    record { view = view; small = (omega (arith, view), seqno); claims = sized_length 32 e.claims a7.1 }
+    let fits = fits_parts e h in
+    record { view = fits.view; small = (omega (arith, fits.view), fits.seqno); claims = sized_length 32 e.claims fits.digest }
 
 -- ---- a receipt and the first so many entries of a sound ledger
 

@@ -25,7 +25,7 @@ use Rattle.gl_ledger.specs.Audit.{audited}
 use Rattle.gl_ledger.proofs.Auditing.{audited_none}
 use Rattle.gl_ledger.proofs.Passing.{passing}
 use Rattle.gl_ledger.proofs.Valid.{valid_sound}
-use Rattle.gl_ledger.proofs.Sounding.{fits_parts}
+use Rattle.gl_entry.proofs.EntryRanges.{fits_parts}
 use Rattle.gl_ledger.proofs.SignatureMeanings.{signature_means}
 use Rattle.gl_receipt.specs.Made.{at_seqno, entry_at, recorded_signature, IsOfService}
 use Rattle.gl_audit.specs.Committed.{Held}

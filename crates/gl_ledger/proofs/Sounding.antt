@@ -1,12 +1,12 @@
 -- An entry that breaks no rule keeps a ledger sound.
-use Rattle.std.proofs.Common.{◌≡◌, ⊎_elim, ℕ, suc, ◌+◌, ◌-◌, ◌≤◌, ◌^◌, nat_lt, nat_le, List, [], ◌∷◌, ◌++◌, length, Option, Some, None, Result, Ok, Err, Bool, true, false, not, ◌&&◌, ◌||◌, ◌==◌, refl, sym, ◌∙◌, ap, subst, arith, slice_get, if◌then◌else◌}
-use Rattle.std.specs.List.{list_all, AllByRecursion}
+use Rattle.std.proofs.Common.{◌≡◌, ⊎_elim, ℕ, suc, ◌+◌, ◌-◌, ◌≤◌, nat_le, List, [], ◌∷◌, ◌++◌, length, Option, Some, None, Result, Ok, Err, Bool, true, false, not, ◌&&◌, ◌||◌, ◌==◌, refl, sym, ◌∙◌, ap, subst, arith, slice_get, if◌then◌else◌}
+use Rattle.std.specs.List.{AllByRecursion}
 use Rattle.std.specs.FinMap as rows
 use Rattle.std.specs.Cmp.Lexicographic.{bytes_decides}
 use Rattle.std.proofs.lemmas.Bool.{and_parts}
 use Rattle.std.proofs.lemmas.Bool.Decides.{nat_tests}
 use Rattle.sha2.specs.Sha256.{sha256}
-use Rattle.gl_base.specs.Bytes.{are_bytes, same_bytes, is_digest}
+use Rattle.gl_base.specs.Bytes.{are_bytes, same_bytes}
 use Rattle.gl_base.specs.declared.fault.CodeFault.{CodeFault}
 use Rattle.gl_base.proofs.ByteLists.{are_bytes-each}
 use Rattle.gl_base.proofs.Lists.{slice_get-push, slice_get-within}
@@ -15,7 +15,6 @@ use Rattle.gl_merkle.specs.Tree.{root_of}
 use Rattle.gl_rules.specs.Identity.{member}
 use Rattle.gl_rules.specs.World.{first_view}
 use Rattle.gl_vmaps.specs.Tables.{Tables, Rows, no_tables, wrote, wrote_all, with_row}
-use Rattle.gl_vmaps.specs.Writes.{is_write, is_ordered}
 use Rattle.gl_vmaps.specs.declared.write.Write.{Write}
 use Rattle.gl_tx.specs.Request.{reply_bytes}
 use Rattle.gl_tx.specs.Parsing.{request_of}
@@ -24,11 +23,12 @@ use Rattle.gl_tx.specs.declared.runs.Ran.{Ran}
 use Rattle.gl_tx.specs.declared.request.Operation.{Operation}
 use Rattle.gl_tx.specs.declared.abort.Abort.{Abort}
 use Rattle.gl_tx.proofs.Formats.{request-encoded}
-use Rattle.gl_entry.specs.Entry.{no_digest, is_signature, is_entry, is_content, may_write, may_claim, are_no_writes, is_no_digest, body_bytes, body_limit}
+use Rattle.gl_entry.specs.Entry.{no_digest, is_signature, is_entry, is_content, may_write, may_claim, are_no_writes, is_no_digest}
 use Rattle.gl_entry.specs.declared.entry.Content.{Content}
 use Rattle.gl_entry.specs.declared.entry.Content.TheVariants as content
 use Rattle.gl_entry.specs.declared.entry.Entry.{Entry}
 use Rattle.gl_entry.specs.declared.entry.Signature as signatures
+use Rattle.gl_entry.proofs.EntryRanges.{Fits, fits_parts}
 use Rattle.gl_gov_rules.specs.Rows.{service_map, service_key, effect, effect_writes}
 use Rattle.gl_gov_rules.specs.declared.change.Recorded.{Recorded}
 use Rattle.gl_ledger.specs.ServiceRow.{service_state, state_of_value}
@@ -59,32 +59,6 @@ use Rattle.gl_ledger.proofs.Gathering.{requests-quiet, requests-more, signing_is
 use Rattle.gl_ledger.proofs.Passing.{passed, Passes, passing}
 use Rattle.gl_ledger.proofs.RequestEncodings.{request_in-encoded}
 use Rattle.gl_gov_rules.proofs.Effects.{no_rows, effect_turns}
-
--- ---- what fits its format
-
-pub record Fits (e : Entry) : Type 0 where
-  pub content : is_content e.content ≡ true
-  pub writes : (may_write e.content || are_no_writes e.writes) ≡ true
-  pub claims : (may_claim e.content || is_no_digest e.claims) ≡ true
-
-pub fits_parts : (e : Entry) → is_entry e ≡ true → Fits e
-fits_parts e h =
-    let v = nat_lt e.view (2 ^ 32) in
-    let p = nat_lt e.seqno (2 ^ 64) in
-    let c = is_content e.content in
-    let l = list_all is_write e.writes in
-    let o = is_ordered e.writes in
-    let w = may_write e.content || are_no_writes e.writes in
-    let d = is_digest e.claims in
-    let m = may_claim e.content || is_no_digest e.claims in
-    let a9 = and_parts (v && p && c && l && o && w && d && m) (nat_le (length (body_bytes e)) body_limit) h in
-    let a8 = and_parts (v && p && c && l && o && w && d) m a9.0 in
-    let a7 = and_parts (v && p && c && l && o && w) d a8.0 in
-    let a6 = and_parts (v && p && c && l && o) w a7.0 in
-    let a5 = and_parts (v && p && c && l) o a6.0 in
-    let a4 = and_parts (v && p && c) l a5.0 in
-    let a3 = and_parts (v && p) c a4.0 in
-    record { content = a3.1; writes = a6.1; claims = a8.1 }
 
 none_written : (ws : List Write) → are_no_writes ws ≡ true → ws ≡ []
 none_written [] h = refl

@@ -153,7 +153,7 @@ pub(crate) fn trust_count(changes: &[Changed]) -> usize
 pub(crate) fn retirement_count(changes: &[Changed]) -> usize
     ensures { result
         ≡ count_by (λ (c : a_change.Changed). is_some (retirement_in c.seqno c.change))
-            changes.now }
+        changes.now }
 {
     changes
         .iter()

@@ -49,7 +49,7 @@ fn last_nodes(configurations: &[Configuration]) -> &[NodeId]
 pub(crate) fn count_upto(configurations: &[Configuration], seqno: u64) -> usize
     ensures { result
         ≡ count_by (λ (c : a_configuration.Configuration). nat_le c.seqno seqno)
-            configurations.now }
+        configurations.now }
 {
     configurations
         .iter()

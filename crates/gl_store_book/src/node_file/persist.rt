@@ -102,7 +102,7 @@ pub fn keep_opening<D: Disk>(
         (D.past journal.old.gated.disk) (D.past journal.new.gated.disk) }
     ensures fits { OnOk result
         (length (records_bytes (view_vote_records turn.now ++ append_records entries.now))
-            < 2 ^ 32) }
+        < 2 ^ 32) }
     ensures too_large { (size : ℕ) →
         result ≡ Err (OrNoMemory.Fault (OpeningFault.TooLarge size)) →
         (size ≡ length (records_bytes (view_vote_records turn.now ++ append_records entries.now)))

@@ -33,7 +33,7 @@ module _ {D S Q G R A F : Type 0} (stands : S → Book Entry Q G R A F → Holdi
   abbrev pub LeavesEither : Core S Q G R A F → Journal D → Type 0
   LeavesEither c' j' = OfState (λ d.
       Leaves (OpensToOneOf goes_on d (kept_of ledger d c')) (past j.gated.disk)
-          (past j'.gated.disk))
+      (past j'.gated.disk))
 
   -- The event is done, and kept.
   pub record IsDone (done : Done S Q G R A F) (c' : Core S Q G R A F) (j' : Journal D)

@@ -127,6 +127,6 @@ abbrev pub Does : {S Payload : Type 0} → Rules S Payload → Serving → Momen
 Does rules settings m [] content now = (content ≡ []) × (now ≡ m)
 Does {S} rules settings m (work ∷ more) content now =
     (m.session_state.over ≡ None) × (next : Moment S) × (lines : List Line) ×
-        (others : List (List Line))
+    (others : List (List Line))
     × One rules settings m work lines next × (content ≡ lines ∷ others)
     × Does rules settings next more others now

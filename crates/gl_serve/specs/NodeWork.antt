@@ -69,13 +69,13 @@ module _ {D S : Type 0} (stands : S → ServiceBook → Holding Entry → Type 0
       Comes (events.Govern request) old new (λ result. Answers number result outcome)
   Asks old number (asks.StatusOf id) outcome new =
       Questions old number (λ b n reported. reported
-          ≡ content.StatusIs (reported_status b n id)) outcome new
+      ≡ content.StatusIs (reported_status b n id)) outcome new
   Asks old number (asks.ReceiptOf id) outcome new =
       Questions old number
       (λ b n. Says (receipt_answer_body (receipt_of (receipts_of n.log n.commit) id))) outcome new
   Asks old number (asks.SnapshotPart offset) outcome new =
       Questions old number (λ b n. Says (reason_answer_body (numbers 81 (n.commit ∷ []))))
-          outcome new
+      outcome new
 
   -- A peer's message is its event. Whatever a client asks is answered once, under its number.
   abbrev pub Handles : NodeSeen D S → Payload → Outcome → NodeSeen D S → Type 0

@@ -38,11 +38,17 @@ pub record Serves {S Payload : Type 0} (honest : Bool) (rules : Rules S Payload)
   pub session_state : SessionState
   pub lost : ℕ
   pub went : Went honest rules settings
-      (record { moment = record { node = first; session_state = first_session_state };
-          past = past; lost = 0 })
+      (record {
+        moment = record { node = first; session_state = first_session_state };
+        past = past;
+        lost = 0;
+      })
       (script settings.peers.now [] came) came
-      (record { moment = record { node = last; session_state = session_state };
-          past = now_past; lost = lost })
+      (record {
+        moment = record { node = last; session_state = session_state };
+        past = now_past;
+        lost = lost;
+      })
       (course_of result)
   pub taken : IsTrue honest → ahead ≡ came ++ now_ahead
   pub counts : IfOk result (λ counts. (counts.0 ≡ session_state.served) × (counts.1 ≡ lost))

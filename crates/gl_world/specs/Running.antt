@@ -43,7 +43,7 @@ module _ {N S : Type 0} (stands : StandsAs N) where
   Moves event old outcome new = Of old (λ s w. is_among (node_ids s) w.sent event ≡ true →
       IsRunning s new (happens (book_of s) w (seen_event s event)).world
       × (seen_outcome {F = Rejection} outcome
-          ≡ (happens (book_of s) w (seen_event s event)).outcome))
+      ≡ (happens (book_of s) w (seen_event s event)).outcome))
 
   -- It is refused so in each of them.
   abbrev pub Denies : Event → Nodes N S → ServiceRefusal S → Type 0

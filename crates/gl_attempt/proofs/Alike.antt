@@ -10,7 +10,7 @@ use Rattle.gl_vmaps.specs.Versions.{is_to_map}
 use Rattle.gl_vmaps.specs.declared.write.Write.{Write}
 use Rattle.gl_vmaps.specs.Growth.{gains, loses, gained, lost}
 use Rattle.gl_vmaps.specs.LastWrite.{value_after}
-use Rattle.gl_tx.specs.Sees.{Sees, write_to, suffix}
+use Rattle.gl_tx.specs.Sees.{Sees, write_to, seen_after}
 use Rattle.gl_tx.specs.Run.{answer_only, answer_and_write, yes_or_no, value_or_none, add_result, check_result, follow_result, bar_on, unless_barred, on_seen, perform_result, with_answer, goes_on, run_from, with_writes}
 use Rattle.gl_vmaps.specs.Tables.{same_value}
 use Rattle.gl_attempt.specs.Asks.{row_asks, rows_written, key_asks, allowed_asks, asks_unless_barred, asks_of, asks_after, asks_from}
@@ -34,7 +34,7 @@ AreAlike known s t = (ask : Ask) → known ask ≡ true → IsSameAt s t ask
 
 -- a row after a write set, where what is asked for it is known
 pub value-alike : (known : Ask → Bool) (s t : Sees) (ws : List Write) (map key : List ℕ) → AreAlike known s t →
-    list_all known (row_asks ws map key) ≡ true → (suffix s ws).value map key ≡ (suffix t ws).value map key
+    list_all known (row_asks ws map key) ≡ true → (seen_after s ws).value map key ≡ (seen_after t ws).value map key
 value-alike known s t ws map key alike is = go (write_to map key ws) is
   where
     go : (w : Option Write) → list_all known (cond (is_some w) [] (asks.Row map key ∷ [])) ≡ true →
@@ -80,7 +80,7 @@ lost-alike known s t (w ∷ ws) map alike is =
     go false h again = ap (λ (n : ℕ). 0 + n) (again h)
 
 size-alike : (known : Ask → Bool) (s t : Sees) (ws : List Write) (map : List ℕ) → AreAlike known s t →
-    list_all known (asks.Map map ∷ rows_written map ws) ≡ true → (suffix s ws).size map ≡ (suffix t ws).size map
+    list_all known (asks.Map map ∷ rows_written map ws) ≡ true → (seen_after s ws).size map ≡ (seen_after t ws).size map
 size-alike known s t ws map alike is =
     let both = and_parts (known (asks.Map map)) (list_all known (rows_written map ws)) is in
     let before = alike (asks.Map map) both.0 in
@@ -92,24 +92,24 @@ size-alike known s t ws map alike is =
 
 -- a value that is followed, where the key that it is is known
 follow-alike : (known : Ask → Bool) (s t : Sees) (ws : List Write) (target : List ℕ) (v : Option (List ℕ)) → AreAlike known s t →
-    list_all known (key_asks ws target v) ≡ true → follow_result (suffix s ws) target v ≡ follow_result (suffix t ws) target v
+    list_all known (key_asks ws target v) ≡ true → follow_result (seen_after s ws) target v ≡ follow_result (seen_after t ws) target v
 follow-alike known s t ws target None alike is = refl
 follow-alike known s t ws target (Some key) alike is = go (is_key key) is
   where
     go : (b : Bool) → list_all known (cond b (row_asks ws target key) []) ≡ true →
-        cond b (answer_only (value_or_none ((suffix s ws).value target key))) (Err causes.BadKey)
-        ≡ cond b (answer_only (value_or_none ((suffix t ws).value target key))) (Err causes.BadKey)
+        cond b (answer_only (value_or_none ((seen_after s ws).value target key))) (Err causes.BadKey)
+        ≡ cond b (answer_only (value_or_none ((seen_after t ws).value target key))) (Err causes.BadKey)
     go true h = ap (λ (o : Option (List ℕ)). answer_only (value_or_none o)) (value-alike known s t ws target key alike h)
     go false h = refl
 
 follow_parts : (known : Ask → Bool) (s : Sees) (ws : List Write) (map key target : List ℕ) → list_all known (allowed_asks (Follow map key target) s ws) ≡ true →
-    (list_all known (row_asks ws map key) ≡ true) × (list_all known (key_asks ws target ((suffix s ws).value map key)) ≡ true)
+    (list_all known (row_asks ws map key) ≡ true) × (list_all known (key_asks ws target ((seen_after s ws).value map key)) ≡ true)
 follow_parts known s ws map key target is =
-    and_parts (list_all known (row_asks ws map key)) (list_all known (key_asks ws target ((suffix s ws).value map key)))
-    (sym (list_all-append known (row_asks ws map key) (key_asks ws target ((suffix s ws).value map key))) ∙ is)
+    and_parts (list_all known (row_asks ws map key)) (list_all known (key_asks ws target ((seen_after s ws).value map key)))
+    (sym (list_all-append known (row_asks ws map key) (key_asks ws target ((seen_after s ws).value map key))) ∙ is)
 
 on_seen-alike : (known : Ask → Bool) (s t : Sees) (ws : List Write) (o : Operation) → AreAlike known s t →
-    list_all known (allowed_asks o s ws) ≡ true → on_seen (suffix s ws) o ≡ on_seen (suffix t ws) o
+    list_all known (allowed_asks o s ws) ≡ true → on_seen (seen_after s ws) o ≡ on_seen (seen_after t ws) o
 on_seen-alike known s t ws (Get map key) alike is = ap (λ (v : Option (List ℕ)). answer_only (value_or_none v)) (value-alike known s t ws map key alike is)
 on_seen-alike known s t ws (Has map key) alike is = ap (λ (v : Option (List ℕ)). answer_only (yes_or_no (is_some v))) (value-alike known s t ws map key alike is)
 on_seen-alike known s t ws (Put map key value) alike is = refl
@@ -119,17 +119,17 @@ on_seen-alike known s t ws (Add map key amount) alike is = ap (λ (v : Option (L
 on_seen-alike known s t ws (Check map key expected) alike is = ap (λ (v : Option (List ℕ)). check_result (same_value expected v)) (value-alike known s t ws map key alike is)
 on_seen-alike known s t ws (Follow map key target) alike is =
     let parts = follow_parts known s ws map key target is in
-    follow-alike known s t ws target ((suffix s ws).value map key) alike parts.1
-    ∙ ap (λ (v : Option (List ℕ)). follow_result (suffix t ws) target v) (value-alike known s t ws map key alike parts.0)
+    follow-alike known s t ws target ((seen_after s ws).value map key) alike parts.1
+    ∙ ap (λ (v : Option (List ℕ)). follow_result (seen_after t ws) target v) (value-alike known s t ws map key alike parts.0)
 on_seen-alike known s t ws (Size map) alike is = ap (λ (n : ℕ). answer_only (answers.Number n)) (size-alike known s t ws map alike is)
 
 -- an operation gives the same on both, where all that it asks for is known
 pub perform_result-alike : (known : Ask → Bool) (s t : Sees) (ws : List Write) (o : Operation) → AreAlike known s t →
-    list_all known (asks_of o s ws) ≡ true → perform_result o (suffix s ws) ≡ perform_result o (suffix t ws)
+    list_all known (asks_of o s ws) ≡ true → perform_result o (seen_after s ws) ≡ perform_result o (seen_after t ws)
 perform_result-alike known s t ws o alike is = go (bar_on o) is
   where
     go : (b : Option Cause) → list_all known (asks_unless_barred b (allowed_asks o s ws)) ≡ true →
-        unless_barred b (on_seen (suffix s ws) o) ≡ unless_barred b (on_seen (suffix t ws) o)
+        unless_barred b (on_seen (seen_after s ws) o) ≡ unless_barred b (on_seen (seen_after t ws) o)
     go None h = on_seen-alike known s t ws o alike h
     go (Some cause) h = refl
 
@@ -161,9 +161,9 @@ pub run_from-alike : (known : Ask → Bool) (s t : Sees) (n : ℕ) (os : List Op
     list_all known (asks_from os s ws) ≡ true → run_from n os s ws ≡ run_from n os t ws
 run_from-alike known s t n [] ws alike is = refl
 run_from-alike known s t n (o ∷ os) ws alike is =
-    let rest = asks_after (λ (done : Performed). asks_from os s (with_writes ws done.write)) (perform_result o (suffix s ws)) in
+    let rest = asks_after (λ (done : Performed). asks_from os s (with_writes ws done.write)) (perform_result o (seen_after s ws)) in
     let both = and_parts (list_all known (asks_of o s ws)) (list_all known rest) (sym (list_all-append known (asks_of o s ws) rest) ∙ is) in
-    go (perform_result o (suffix s ws)) both.1
+    go (perform_result o (seen_after s ws)) both.1
     (λ done. run_from-alike known s t (suc n) os (with_writes ws done.write) alike)
     ∙ ap (λ (r : Result Performed Cause). goes_on n (λ done. run_from (suc n) os t (with_writes ws done.write)) r) (perform_result-alike known s t ws o alike both.0)
   where

@@ -14,7 +14,7 @@ use Rattle.gl_vmaps.specs.Versions.{is_to_map}
 use Rattle.gl_vmaps.specs.Writes.{write_order, put_before, with_write}
 use Rattle.gl_vmaps.specs.declared.write.Write.{Write}
 use Rattle.gl_vmaps.proofs.TablesLaws.{same_bytes-itself, same_bytes-eq}
-use Rattle.gl_tx.specs.Sees.{Sees, write_to, suffix}
+use Rattle.gl_tx.specs.Sees.{Sees, write_to, seen_after}
 use Rattle.gl_tx.specs.Run.{bar_on, perform_result, with_writes}
 use Rattle.gl_attempt.specs.Asks.{row_asks, rows_written, key_asks, allowed_asks, asks_unless_barred, asks_of, asks_after, asks_from, is_of_row, is_of_map, note_on, is_noted, value_in_note, size_in_note, sees_by, next_ask, ask_of, AreAskedAfter, AreAsked}
 use Rattle.gl_tx.specs.declared.performed.Performed.{Performed}
@@ -157,8 +157,8 @@ follow-stays known s t ws map key target alike = go (list_all known (row_asks ws
         (prefix-begins known (allowed_asks (Follow map key target) s ws))
     go false is =
         subst (λ (xs : List Ask). Begins xs (allowed_asks (Follow map key target) t ws))
-        (sym (prefix-unknown known (row_asks ws map key) (key_asks ws target ((suffix s ws).value map key)) is))
-        (begins-append (prefix known (row_asks ws map key)) (row_asks ws map key) (key_asks ws target ((suffix t ws).value map key)) (prefix-begins known (row_asks ws map key)))
+        (sym (prefix-unknown known (row_asks ws map key) (key_asks ws target ((seen_after s ws).value map key)) is))
+        (begins-append (prefix known (row_asks ws map key)) (row_asks ws map key) (key_asks ws target ((seen_after t ws).value map key)) (prefix-begins known (row_asks ws map key)))
 
 allowed-stays : (known : Ask → Bool) (s t : Sees) (ws : List Write) (o : Operation) → AreAlike known s t → Begins (prefix known (allowed_asks o s ws)) (allowed_asks o t ws)
 allowed-stays known s t ws (Get map key) alike = prefix-begins known (row_asks ws map key)
@@ -183,7 +183,7 @@ asks_next os s ws r = asks_after (λ done. asks_from os s (with_writes ws done.w
 asks_from-stays : (known : Ask → Bool) (s t : Sees) (os : List Operation) (ws : List Write) → AreAlike known s t → Begins (prefix known (asks_from os s ws)) (asks_from os t ws)
 asks_from-stays known s t [] ws alike = ([], refl)
 asks_from-stays known s t (o ∷ os) ws alike =
-    go (list_all known (asks_of o s ws)) refl (suffix-stays (perform_result o (suffix s ws)) (λ done. asks_from-stays known s t os (with_writes ws done.write) alike))
+    go (list_all known (asks_of o s ws)) refl (suffix-stays (perform_result o (seen_after s ws)) (λ done. asks_from-stays known s t os (with_writes ws done.write) alike))
   where
     suffix-stays : (r : Result Performed Cause) → ((done : Performed) → Begins (prefix known (asks_from os s (with_writes ws done.write))) (asks_from os t (with_writes ws done.write))) →
         Begins (prefix known (asks_next os s ws r)) (asks_next os t ws r)
@@ -191,11 +191,11 @@ asks_from-stays known s t (o ∷ os) ws alike =
     suffix-stays (Ok done) again = again done
 
     go : (b : Bool) → list_all known (asks_of o s ws) ≡ b →
-        Begins (prefix known (asks_next os s ws (perform_result o (suffix s ws)))) (asks_next os t ws (perform_result o (suffix s ws))) →
+        Begins (prefix known (asks_next os s ws (perform_result o (seen_after s ws)))) (asks_next os t ws (perform_result o (seen_after s ws))) →
         Begins (prefix known (asks_from (o ∷ os) s ws)) (asks_from (o ∷ os) t ws)
     go true is again =
-        let rest = asks_next os s ws (perform_result o (suffix s ws)) in
-        let after = asks_next os t ws (perform_result o (suffix s ws)) in
+        let rest = asks_next os s ws (perform_result o (seen_after s ws)) in
+        let after = asks_next os t ws (perform_result o (seen_after s ws)) in
         let begins : Begins (asks_of o s ws ++ prefix known rest) (asks_of o s ws ++ after) =
         begins-suffix (asks_of o s ws) (prefix known rest) after again in
         let first : Begins (prefix known (asks_of o s ws ++ rest)) (asks_of o s ws ++ after) =
@@ -206,8 +206,8 @@ asks_from-stays known s t (o ∷ os) ws alike =
         first
     go false is again =
         subst (λ (xs : List Ask). Begins xs (asks_from (o ∷ os) t ws))
-        (sym (prefix-unknown known (asks_of o s ws) (asks_next os s ws (perform_result o (suffix s ws))) is))
-        (begins-append (prefix known (asks_of o s ws)) (asks_of o t ws) (asks_next os t ws (perform_result o (suffix t ws))) (asks_of-stays known s t ws o alike))
+        (sym (prefix-unknown known (asks_of o s ws) (asks_next os s ws (perform_result o (seen_after s ws))) is))
+        (begins-append (prefix known (asks_of o s ws)) (asks_of o t ws) (asks_next os t ws (perform_result o (seen_after t ws))) (asks_of-stays known s t ws o alike))
 
 -- ---- two asks for each operation
 
@@ -242,7 +242,7 @@ own_ask-row (Size map) w e = absurd (cc)
 
 -- the key that a followed value is
 abbrev further_asks : Operation → Sees → List Write → List Ask
-further_asks (Follow map key target) s ws = key_asks ws target ((suffix s ws).value map key)
+further_asks (Follow map key target) s ws = key_asks ws target ((seen_after s ws).value map key)
 further_asks other s ws = []
 
 abbrev charges : Operation → Sees → List Write → List Ask
@@ -254,7 +254,7 @@ charges_after rest (Ok done) = rest done
 
 abbrev charges_from : List Operation → Sees → List Write → List Ask
 charges_from [] s ws = []
-charges_from (o ∷ os) s ws = charges o s ws ++ charges_after (λ done. charges_from os s (with_writes ws done.write)) (perform_result o (suffix s ws))
+charges_from (o ∷ os) s ws = charges o s ws ++ charges_after (λ done. charges_from os s (with_writes ws done.write)) (perform_result o (seen_after s ws))
 
 length-row_asks : (ws : List Write) (map key : List ℕ) → length (row_asks ws map key) ≤ 1
 length-row_asks ws map key = go (is_some (write_to map key ws))
@@ -278,12 +278,12 @@ length-further_asks (Put map key value) s ws = omega arith
 length-further_asks (Remove map key) s ws = omega arith
 length-further_asks (Add map key amount) s ws = omega arith
 length-further_asks (Check map key expected) s ws = omega arith
-length-further_asks (Follow map key target) s ws = length-key_asks ws target ((suffix s ws).value map key)
+length-further_asks (Follow map key target) s ws = length-key_asks ws target ((seen_after s ws).value map key)
 length-further_asks (Size map) s ws = omega arith
 
 length-charges_from : (os : List Operation) (s : Sees) (ws : List Write) → length (charges_from os s ws) ≤ 2 * length os
 length-charges_from [] s ws = omega arith
-length-charges_from (o ∷ os) s ws = go (perform_result o (suffix s ws)) (λ done. length-charges_from os s (with_writes ws done.write))
+length-charges_from (o ∷ os) s ws = go (perform_result o (seen_after s ws)) (λ done. length-charges_from os s (with_writes ws done.write))
   where
     go : (r : Result Performed Cause) → ((done : Performed) → length (charges_from os s (with_writes ws done.write)) ≤ 2 * length os) →
         length (charges o s ws ++ charges_after (λ done. charges_from os s (with_writes ws done.write)) r) ≤ 2 * length (o ∷ os)
@@ -326,7 +326,7 @@ allowed-charged (Remove map key) s ws a h = inl (inl (among-row_asks ws map key 
 allowed-charged (Add map key amount) s ws a h = inl (inl (among-row_asks ws map key a h))
 allowed-charged (Check map key expected) s ws a h = inl (inl (among-row_asks ws map key a h))
 allowed-charged (Follow map key target) s ws a h =
-    elim (among-append (row_asks ws map key) (key_asks ws target ((suffix s ws).value map key)) a h) [
+    elim (among-append (row_asks ws map key) (key_asks ws target ((seen_after s ws).value map key)) a h) [
       | inl f ↦ inl (inl (among-row_asks ws map key a f))
       | inr b ↦ inl (inr b)
     ]
@@ -358,7 +358,7 @@ among-with_writes ws (Some w) o a is h = elim (among-with_write ws w a h) [ inl 
 asks_from-charged : (os : List Operation) (s : Sees) (ws : List Write) (a : Ask) → Among (asks_from os s ws) a → Among (charges_from os s ws) a ⊎ Among (rows ws) a
 asks_from-charged [] s ws a h = absurd h
 asks_from-charged (o ∷ os) s ws a h =
-    go (perform_result o (suffix s ws)) (perform_result-own o (suffix s ws)) (λ done. asks_from-charged os s (with_writes ws done.write) a) h
+    go (perform_result o (seen_after s ws)) (perform_result-own o (seen_after s ws)) (λ done. asks_from-charged os s (with_writes ws done.write) a) h
   where
     go : (r : Result Performed Cause) → WritesTo (own_row o) r →
         ((done : Performed) → Among (asks_from os s (with_writes ws done.write)) a → Among (charges_from os s (with_writes ws done.write)) a ⊎ Among (rows (with_writes ws done.write)) a) →

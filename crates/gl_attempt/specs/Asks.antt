@@ -4,7 +4,7 @@ use Rattle.gl_vmaps.specs.Name.{is_key}
 use Rattle.gl_vmaps.specs.Tables.{same_bytes}
 use Rattle.gl_vmaps.specs.Versions.{is_to_map}
 use Rattle.gl_vmaps.specs.declared.write.Write.{Write}
-use Rattle.gl_tx.specs.Sees.{Sees, write_to, suffix}
+use Rattle.gl_tx.specs.Sees.{Sees, write_to, seen_after}
 use Rattle.gl_tx.specs.Run.{bar_on, perform_result, with_writes}
 use Rattle.gl_tx.specs.declared.performed.Performed.{Performed}
 use Rattle.gl_tx.specs.declared.abort.Cause.{Cause}
@@ -41,7 +41,7 @@ allowed_asks (Remove map key) sees ws = row_asks ws map key
 allowed_asks (Add map key amount) sees ws = row_asks ws map key
 allowed_asks (Check map key expected) sees ws = row_asks ws map key
 allowed_asks (Follow map key target) sees ws =
-    row_asks ws map key ++ key_asks ws target ((suffix sees ws).value map key)
+    row_asks ws map key ++ key_asks ws target ((seen_after sees ws).value map key)
 allowed_asks (Size map) sees ws = asks.Map map ∷ rows_written map ws
 
 -- What an operation asks for: nothing, where no request may name one of its maps.
@@ -63,7 +63,7 @@ asks_from [] sees ws = []
 asks_from (operation ∷ operations) sees ws =
     asks_of operation sees ws
     ++ asks_after (λ done. asks_from operations sees (with_writes ws done.write))
-    (perform_result operation (suffix sees ws))
+    (perform_result operation (seen_after sees ws))
 
 -- The note is of this row; and of the number of this map's keys.
 abbrev pub is_of_row : List ℕ → List ℕ → Note → Bool

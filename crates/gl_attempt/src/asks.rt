@@ -3,7 +3,7 @@
 ghost use Rattle.std.specs.Prelude.{◌≡◌, ◌+◌, ◌<◌, ◌≤◌, List, [], length, IfOk, OnOk, if◌then◌else◌};
 ghost use Rattle.std.specs.Option.{option_copied};
 ghost use Rattle.gl_vmaps.specs.Versions.{is_to_map};
-ghost use Rattle.gl_tx.specs.Sees.{suffix};
+ghost use Rattle.gl_tx.specs.Sees.{seen_after};
 ghost use Rattle.gl_tx.specs.Run.{perform_result, with_writes};
 ghost use Rattle.gl_attempt.specs.Asks.{row_asks, key_asks, rows_written, allowed_asks, asks_of, asks_after, asks_from, first_unnoted, sees_by, next_ask};
 ghost use Rattle.gl_tx.specs.declared.request.Operation.{Operation};
@@ -174,7 +174,7 @@ fn step(
     ensures rest { let sees = sees_by overlay.old.base.now in let writes = overlay.old.writes in
         IfOk result (λ goes. (rest : List Operation) →
         asks_after (λ done. asks_from rest sees (with_writes writes done.write))
-        (perform_result operation.now (suffix sees writes))
+        (perform_result operation.now (seen_after sees writes))
         ≡ (if goes then asks_from rest sees overlay.new.writes else [])) }
     ensures same { OnOk result (overlay.new.base.now ≡ overlay.old.base.now) }
     ensures few { OnOk result (length overlay.new.writes ≤ length overlay.old.writes + 1) }

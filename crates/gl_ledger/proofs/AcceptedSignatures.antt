@@ -97,7 +97,7 @@ module _ (layers : Layers) (keys : NodeKeys) where
       record {
         last = last.0;
         is_last = last.1;
-        suffix = or_from (founds last.0) (recovers last.0) (not_founding log last.0 may.signature commit z last.1 may.at may.signs) (unrecovered (length log - 1) last.0 last.1);
+        opened = or_from (founds last.0) (recovers last.0) (not_founding log last.0 may.signature commit z last.1 may.at may.signs) (unrecovered (length log - 1) last.0 last.1);
         up = up (length log - 1) last.0 last.1;
       }
 

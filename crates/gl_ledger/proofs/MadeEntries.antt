@@ -78,7 +78,7 @@ module _ (layers : Layers) (keys : NodeKeys) (ledger : List Entry) (view : ℕ) 
       ap (λ (o : Option Entry). is_in_order o t view) m.is_last
       ∙ and_from (not (is_founding t) && (not (is_recovering t) || is_signature m.last.content)) (not (begins m.last) || (is_signing t && (view == m.last.view)))
       (and_from (not (is_founding t)) (not (is_recovering t) || is_signature m.last.content) (ap not other) (ap (λ (b : Bool). not b || is_signature m.last.content) again))
-      (ap (λ (b : Bool). not b || (is_signing t && (view == m.last.view))) m.suffix)
+      (ap (λ (b : Bool). not b || (is_signing t && (view == m.last.view))) m.opened)
 
   -- an application request that isn't refused makes an entry that breaks no rule
   pub executed_unbroken : (q : List Operation) (e : Entry) (a : List Answer) → is_request q ≡ true → execute_result ledger view q ≡ Ok (e, a) → is_entry e ≡ true → broken layers ledger e ≡ None
@@ -200,7 +200,7 @@ module _ (layers : Layers) (keys : NodeKeys) where
       let seqno = length ledger + 1 in
       let records : may_record ledger commit ≡ true =
       ap (λ (o : Option Entry). if is_unopened o then commit == seqno else is_later_commit ledger commit) m.is_last
-      ∙ ap (λ (b : Bool). if b then commit == seqno else is_later_commit ledger commit) m.suffix ∙ may_go_on ledger commit may in
+      ∙ ap (λ (b : Bool). if b then commit == seqno else is_later_commit ledger commit) m.opened ∙ may_go_on ledger commit may in
       signed_broken layers keys ledger view m x (signature_after keys x leaf ledger view commit) commit left fits valid.valid ∙ passes (member x (recorded_nodes ledger)) (breach 9 seqno e) _ named (passes (may_record ledger commit) (breach 10 seqno e) None records refl)
 
   pub unless_none : {X : Type 0} (o : Option Broken) (x : X) → o ≡ None → unless_broken o x ≡ Ok x

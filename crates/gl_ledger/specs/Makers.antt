@@ -94,7 +94,7 @@ govern_result ledger view g =
 pub record MayMake (ledger : List Entry) (view : ℕ) : Type 0 where
   pub last : Entry
   pub is_last : last_entry ledger ≡ Some last
-  pub suffix : is_unopened (Some last) ≡ false
+  pub opened : is_unopened (Some last) ≡ false
   pub up : last.view ≤ view
 
 abbrev pub unless_broken : {X : Type 0} → Option Broken → X → Result X Rejection

@@ -10,7 +10,7 @@ use Rattle.gl_vmaps.proofs.WriteLaws.{within-with_write}
 use Rattle.gl_tx.specs.Request.{is_row, is_u64, is_operation}
 use Rattle.gl_tx.specs.Run.{answer_only, answer_and_write, yes_or_no, value_or_none, sum_result, add_result, check_result, follow_result, bar_on, unless_barred, on_seen, perform_result, with_writes, with_answer, goes_on, run_from}
 use Rattle.gl_vmaps.specs.Tables.{same_value}
-use Rattle.gl_tx.specs.Sees.{Sees, has_key, suffix}
+use Rattle.gl_tx.specs.Sees.{Sees, has_key, seen_after}
 use Rattle.gl_tx.specs.declared.performed.Performed.{Performed}
 use Rattle.gl_tx.specs.declared.runs.Ran.{Ran}
 use Rattle.gl_tx.specs.declared.request.Operation.{Operation}
@@ -94,7 +94,7 @@ pub run_from-fits : (n : ℕ) (os : List Operation) (s : Sees) (ws : List Write)
 run_from-fits n [] s ws ran ops all e = subst (λ (x : Ran). AreWithin x.writes) (let p : record { reply = []; writes = ws } ≡ ran = cc in p) all
 run_from-fits n (o ∷ os) s ws ran ops all e =
     let both = and_parts (is_operation o) (list_all is_operation os) ops in
-    go (perform_result o (suffix s ws)) (perform_fits o (suffix s ws) both.0) e (λ done. run_from-fits (suc n) os s (with_writes ws done.write))
+    go (perform_result o (seen_after s ws)) (perform_fits o (seen_after s ws) both.0) e (λ done. run_from-fits (suc n) os s (with_writes ws done.write))
   where
     go : (r : Result Performed Cause) → Fits r →
         goes_on n (λ done. run_from (suc n) os s (with_writes ws done.write)) r ≡ Ok ran →

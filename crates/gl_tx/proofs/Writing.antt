@@ -19,11 +19,11 @@ use Rattle.gl_tx.specs.Run.{run_seeing, run}
 use Rattle.gl_tx.specs.declared.abort.Abort.{Abort}
 use Rattle.gl_tx.specs.declared.request.Operation.{Operation}
 use Rattle.gl_tx.specs.declared.runs.Ran.{Ran}
-use Rattle.gl_tx.specs.Sees.{Sees, sees_in, sees_of, write_to, suffix}
+use Rattle.gl_tx.specs.Sees.{Sees, sees_in, sees_of, write_to, seen_after}
 
 -- What is seen after a write set on a finite map is the finite map that the set was written to.
-pub suffix-sees_in : (t : Tables) (ws : List Write) → IsTrue (is_ordered ws) → suffix (sees_in t) ws ≡ sees_in (wrote_all t ws)
-suffix-sees_in t ws ordered = λ i. record { value = λ map key. sym (value_same map key) i; size = λ map. size_same map i }
+pub seen_after-sees_in : (t : Tables) (ws : List Write) → IsTrue (is_ordered ws) → seen_after (sees_in t) ws ≡ sees_in (wrote_all t ws)
+seen_after-sees_in t ws ordered = λ i. record { value = λ map key. sym (value_same map key) i; size = λ map. size_same map i }
   where
     value_same : (map key : List ℕ) → value_in (wrote_all t ws) map key ≡ value_after (write_to map key ws) (value_in t map key)
     value_same map key = value_in-wrote_all t ws map key ∙ ap (λ (o : Option Write). value_after o (value_in t map key)) (last_write-find map key ws ordered)

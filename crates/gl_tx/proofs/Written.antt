@@ -7,7 +7,7 @@ use Rattle.gl_base.specs.LittleEndian.{little_endian, from_little_endian}
 use Rattle.gl_vmaps.specs.Name.{is_key, is_public, is_governance, is_internal}
 use Rattle.gl_vmaps.specs.Writes.{write_order, put_before, with_write}
 use Rattle.gl_vmaps.specs.declared.write.Write.{Write}
-use Rattle.gl_tx.specs.Sees.{Sees, suffix}
+use Rattle.gl_tx.specs.Sees.{Sees, seen_after}
 use Rattle.gl_tx.specs.Run.{answer_only, answer_and_write, value_or_none, sum_result, add_result, check_result, follow_result, bar_on_map, bar_on_either, bar_on, unless_barred, on_seen, perform_result, with_answer, goes_on, run_from, run_seeing, with_writes}
 use Rattle.gl_vmaps.specs.Tables.{same_value}
 use Rattle.gl_tx.specs.declared.performed.Performed.{Performed}
@@ -151,9 +151,9 @@ with_answer-ok a (Err abort) ran e = absurd (cc)
 -- a run writes to maps alone that a request may name
 pub run_from-may : (n : ℕ) (os : List Operation) (s : Sees) (ws : List Write) (ran : Ran) → AllByRecursion MayName ws → run_from n os s ws ≡ Ok ran → AllByRecursion MayName ran.writes
 run_from-may n [] s ws ran all e = subst (λ (x : Ran). AllByRecursion MayName x.writes) (let p : record { reply = []; writes = ws } ≡ ran = cc in p) all
-run_from-may n (o ∷ os) s ws ran all e = go (perform_result o (suffix s ws)) refl e (λ done. run_from-may (suc n) os s (with_writes ws done.write))
+run_from-may n (o ∷ os) s ws ran all e = go (perform_result o (seen_after s ws)) refl e (λ done. run_from-may (suc n) os s (with_writes ws done.write))
   where
-    go : (r : Result Performed Cause) → perform_result o (suffix s ws) ≡ r →
+    go : (r : Result Performed Cause) → perform_result o (seen_after s ws) ≡ r →
         goes_on n (λ done. run_from (suc n) os s (with_writes ws done.write)) r ≡ Ok ran →
         ((done : Performed) (inner : Ran) → AllByRecursion MayName (with_writes ws done.write) →
         run_from (suc n) os s (with_writes ws done.write) ≡ Ok inner → AllByRecursion MayName inner.writes) →
@@ -162,7 +162,7 @@ run_from-may n (o ∷ os) s ws ran all e = go (perform_result o (suffix s ws)) r
     go (Ok done) is h again =
         let inner = with_answer-ok done.answer (run_from (suc n) os s (with_writes ws done.write)) ran h in
         subst (λ (xs : List Write). AllByRecursion MayName xs) (sym inner.2)
-        (again done inner.0 (with_writes-may ws done.write all (performed_may o (suffix s ws) done is)) inner.1)
+        (again done inner.0 (with_writes-may ws done.write all (performed_may o (seen_after s ws) done is)) inner.1)
 
 -- A run writes to maps alone that a request may name.
 pub run_seeing-may : (os : List Operation) (s : Sees) (ran : Ran) → run_seeing os s ≡ Ok ran → AllByRecursion MayName ran.writes

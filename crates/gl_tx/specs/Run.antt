@@ -5,7 +5,7 @@ use Rattle.gl_vmaps.specs.Name.{is_public, is_governance, is_internal, is_key}
 use Rattle.gl_vmaps.specs.Tables.{Tables, same_bytes, same_value}
 use Rattle.gl_vmaps.specs.Writes.{with_write}
 use Rattle.gl_vmaps.specs.declared.write.Write.{Write}
-use Rattle.gl_tx.specs.Sees.{Sees, sees_in, has_key, suffix}
+use Rattle.gl_tx.specs.Sees.{Sees, sees_in, has_key, seen_after}
 use Rattle.gl_tx.specs.declared.request.Operation.{Operation}
 use Rattle.gl_tx.specs.declared.request.Operation.TheVariants.{Get, Has, Put, Remove, Add, Check, Follow, Size}
 use Rattle.gl_tx.specs.declared.request.Answer.{Answer}
@@ -123,7 +123,7 @@ abbrev pub run_from : ℕ → List Operation → Sees → List Write → Result 
 run_from number [] sees ws = Ok (record { reply = []; writes = ws })
 run_from number (operation ∷ operations) sees ws =
     goes_on number (λ done. run_from (suc number) operations sees (with_writes ws done.write))
-    (perform_result operation (suffix sees ws))
+    (perform_result operation (seen_after sees ws))
 
 -- What a request gives on what it sees: it is aborted by its first operation that fails, counted
 -- from 1.

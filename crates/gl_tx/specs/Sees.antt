@@ -30,8 +30,8 @@ write_to map key ws = find (is_to_row map key) ws
 
 -- What is seen after a write set: each row as the set has it, or else as it was; and each map's
 -- number of keys with those that the set adds, and without those that it removes.
-abbrev pub suffix : Sees → List Write → Sees
-suffix sees ws = record {
+abbrev pub seen_after : Sees → List Write → Sees
+seen_after sees ws = record {
   value = λ map key. value_after (write_to map key ws) (sees.value map key);
   size = λ map. sees.size map + gained sees.value map ws - lost sees.value map ws;
 }

@@ -26,7 +26,7 @@ pub struct Overlay<'a, L: Lookup> {
 impl<'a, L: Lookup> Overlay<'a, L> {
     ghost use Rattle.std.specs.Prelude.{◌+◌, ◌<◌, [], is_some, OnOk, OnErr};
     ghost use Rattle.gl_vmaps.specs.Writes.{with_write};
-    ghost use Rattle.gl_tx.specs.Sees.{has_key, suffix};
+    ghost use Rattle.gl_tx.specs.Sees.{has_key, seen_after};
     ghost use Rattle.gl_vmaps.specs.Growth.{gains, loses};
 
     /// What the first operation of a request sees: nothing is written yet. Takes no memory.
@@ -42,7 +42,7 @@ impl<'a, L: Lookup> Overlay<'a, L> {
 
     /// The value of a key in a map, if the map has that key.
     pub fn get(&self, map: &[u8], key: &[u8]) -> Option<&[u8]>
-        ensures value { let sees = suffix (L.sees self.now.base.now) self.now.writes in
+        ensures value { let sees = seen_after (L.sees self.now.base.now) self.now.writes in
             option_copied result ≡ sees.value map.now key.now }
         ensures limit { IfSome result (λ value. IsTrue (is_value value.now)) }
     {
@@ -61,7 +61,7 @@ impl<'a, L: Lookup> Overlay<'a, L> {
 
     /// Whether the map has the key.
     pub fn has(&self, map: &[u8], key: &[u8]) -> bool
-        ensures { let sees = suffix (L.sees self.now.base.now) self.now.writes in
+        ensures { let sees = seen_after (L.sees self.now.base.now) self.now.writes in
             result ≡ has_key sees map.now key.now }
     {
         self.get(map, key).is_some()
@@ -90,7 +90,7 @@ impl<'a, L: Lookup> Overlay<'a, L> {
 
     /// The number of keys that the map has.
     pub fn size(&self, map: &[u8]) -> u64
-        ensures { let sees = suffix (L.sees self.now.base.now) self.now.writes in
+        ensures { let sees = seen_after (L.sees self.now.base.now) self.now.writes in
             result ≡ sees.size map.now }
     {
         let writes = self.writes.as_slice();

@@ -5,7 +5,7 @@ ghost use Rattle.std.specs.Option.{ForSome, option_copied};
 ghost use Rattle.gl_base.specs.Answers.{Answers};
 ghost use Rattle.gl_base.specs.LittleEndian.{little_endian};
 ghost use Rattle.gl_vmaps.specs.Name.{is_value};
-ghost use Rattle.gl_tx.specs.Sees.{has_key, suffix};
+ghost use Rattle.gl_tx.specs.Sees.{has_key, seen_after};
 ghost use Rattle.gl_tx.specs.Run.{yes_or_no, value_or_none, add_result, check_result, follow_result, bar_on_map, bar_on, answer_only, answer_and_write, on_seen, perform_result};
 ghost use Rattle.gl_vmaps.specs.Tables.{same_value};
 ghost use Rattle.gl_tx.specs.Performs.{key_of, number_in, sum_of};
@@ -127,7 +127,7 @@ fn get<L: Lookup>(
     map: &MapName,
     key: &Key,
 ) -> Result<Performed, OrNoMemory<Cause>>
-    ensures { let sees = suffix (L.sees overlay.now.base.now) overlay.now.writes in
+    ensures { let sees = seen_after (L.sees overlay.now.base.now) overlay.now.writes in
         Answers (λ done. done) result (answer_only (value_or_none (sees.value map.now key.now))) }
 {
     let value = overlay.get(map.as_slice(), key.as_slice());
@@ -135,7 +135,7 @@ fn get<L: Lookup>(
 }
 
 fn has<L: Lookup>(overlay: &Overlay<'_, L>, map: &MapName, key: &Key) -> Performed
-    ensures { let sees = suffix (L.sees overlay.now.base.now) overlay.now.writes in
+    ensures { let sees = seen_after (L.sees overlay.now.base.now) overlay.now.writes in
         answer_only (yes_or_no (has_key sees map.now key.now)) ≡ Ok result }
 {
     answer_only(yes_or_no(overlay.has(map.as_slice(), key.as_slice())))
@@ -160,7 +160,7 @@ fn remove<L: Lookup>(
     map: &MapName,
     key: &Key,
 ) -> Result<Performed, OrNoMemory<Cause>>
-    ensures { let sees = suffix (L.sees overlay.now.base.now) overlay.now.writes in
+    ensures { let sees = seen_after (L.sees overlay.now.base.now) overlay.now.writes in
         Answers (λ done. done) result
         (answer_and_write (yes_or_no (has_key sees map.now key.now)) map.now key.now None) }
 {
@@ -190,7 +190,7 @@ fn add<L: Lookup>(
     key: &Key,
     amount: u64,
 ) -> Result<Performed, OrNoMemory<Cause>>
-    ensures { let sees = suffix (L.sees overlay.now.base.now) overlay.now.writes in
+    ensures { let sees = seen_after (L.sees overlay.now.base.now) overlay.now.writes in
         Answers (λ done. done) result
         (add_result map.now key.now amount (sees.value map.now key.now)) }
 {
@@ -217,7 +217,7 @@ fn check<L: Lookup>(
     key: &Key,
     expected: Option<&Value>,
 ) -> Result<Performed, OrNoMemory<Cause>>
-    ensures { let sees = suffix (L.sees overlay.now.base.now) overlay.now.writes in
+    ensures { let sees = seen_after (L.sees overlay.now.base.now) overlay.now.writes in
         Answers (λ done. done) result (check_result
         (same_value (option_copied expected.entry) (sees.value map.now key.now))) }
 {
@@ -246,7 +246,7 @@ fn follow<L: Lookup>(
     key: &Key,
     target: &MapName,
 ) -> Result<Performed, OrNoMemory<Cause>>
-    ensures { let sees = suffix (L.sees overlay.now.base.now) overlay.now.writes in
+    ensures { let sees = seen_after (L.sees overlay.now.base.now) overlay.now.writes in
         Answers (λ done. done) result (follow_result sees target.now (sees.value map.now key.now)) }
 {
     match overlay.get(map.as_slice(), key.as_slice()) {
@@ -259,7 +259,7 @@ fn follow<L: Lookup>(
 }
 
 fn size<L: Lookup>(overlay: &Overlay<'_, L>, map: &MapName) -> Performed
-    ensures { let sees = suffix (L.sees overlay.now.base.now) overlay.now.writes in
+    ensures { let sees = seen_after (L.sees overlay.now.base.now) overlay.now.writes in
         answer_only (Answer.Number (sees.size map.now)) ≡ Ok result }
 {
     answer_only(Answer::Number(overlay.size(map.as_slice())))
@@ -271,7 +271,7 @@ fn perform_allowed<L: Lookup>(
     overlay: &Overlay<'_, L>,
     operation: &Operation,
 ) -> Result<Performed, OrNoMemory<Cause>>
-    ensures { let sees = suffix (L.sees overlay.now.base.now) overlay.now.writes in
+    ensures { let sees = seen_after (L.sees overlay.now.base.now) overlay.now.writes in
         Answers (λ done. done) result (on_seen sees operation.now) }
 {
     match operation {
@@ -293,7 +293,7 @@ pub fn perform<L: Lookup>(
     overlay: &Overlay<'_, L>,
     operation: &Operation,
 ) -> Result<Performed, OrNoMemory<Cause>>
-    ensures { let sees = suffix (L.sees overlay.now.base.now) overlay.now.writes in
+    ensures { let sees = seen_after (L.sees overlay.now.base.now) overlay.now.writes in
         Answers (λ done. done) result (perform_result operation.now sees) }
 {
     match bar_on(operation) {

@@ -80,7 +80,7 @@ module _ (layers : Layers) (keys : NodeKeys) (s : Start Entry) (h : Begins layer
   pub records : may_record n.log n.commit ≡ true
   records =
       ap (λ (o : Option Entry). if is_unopened o then n.commit == length n.log + 1 else is_later_commit n.log n.commit) may_go.is_last
-      ∙ ap (λ (b : Bool). if b then n.commit == length n.log + 1 else is_later_commit n.log n.commit) may_go.suffix
+      ∙ ap (λ (b : Bool). if b then n.commit == length n.log + 1 else is_later_commit n.log n.commit) may_go.opened
       ∙ may_go_on layers keys n.log n.commit may
 
   four_bytes : n.view < 2 ^ 32

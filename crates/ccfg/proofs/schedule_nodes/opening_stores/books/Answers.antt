@@ -51,14 +51,14 @@ loop-i-preserved c =
     let some : 0 < length books = omega (arith, inv.1, in_time) in
     let old = c.index_mut-in-loop-i.result.now in
     let is = (inv.0 k old (slice_get_read books _ k _ refl low c.index_mut-in-loop-i.ensures.value)).0 in
-    let view = c.suffix-books-in-loop-i.view_is in
-    let node : NodeStore = record { me = c.suffix-books-in-loop-i.inside.me; key = c.suffix-books-in-loop-i.inside.key; ledger = c.in_ok-opened.opened } in
+    let view = c.behind-books-in-loop-i.view_is in
+    let node : NodeStore = record { me = c.behind-books-in-loop-i.inside.me; key = c.behind-books-in-loop-i.inside.key; ledger = c.in_ok-opened.opened } in
     let of_node : IsOfNode s (suc i) node = subst (λ (n : ℕ). IsOfNode s (suc n) node) same (record {
       named = ap (λ (n : NodeStore). n.me) view ∙ is.named;
       key = ap (λ (n : NodeStore). n.key) view ∙ is.key;
     }) in
     let first = (inv.0 0 c.index.result.now (slice_get_read books _ 0 _ refl some c.index.ensures)).1 in
-    let held : c.in_ok-opened.opened ≡ (start_of s).opening = c.in_ok-opened.ensures ∙ ap (λ (n : NodeStore). n.ledger) c.suffix-books.view_is ∙ first ∙ opened_one s i inv.2 in
+    let held : c.in_ok-opened.opened ≡ (start_of s).opening = c.in_ok-opened.ensures ∙ ap (λ (n : NodeStore). n.ledger) c.behind-books.view_is ∙ first ∙ opened_one s i inv.2 in
     let more = subst (λ (m : ℕ). HaveOpened s m (slice_set books i node)) (let next : suc i ≡ i + 1 = omega arith in next) (one_opened s i books node inv.0 of_node held) in (
       subst (λ (n : ℕ). HaveOpened s (i + 1) (slice_set books n node)) (sym same) more,
       length-set books k node ∙ inv.1,

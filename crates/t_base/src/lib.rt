@@ -1,6 +1,5 @@
-//! The tests of the lowest libraries, and of the requests of governance, a module for each: they
-//! stand here, over the libraries, since a library with tests of its own is proved once more with
-//! them.
+//! The tests of the lowest libraries, a module for each: they stand here, over the libraries, since
+//! a library with tests of its own is proved once more with them.
 #![tactic(auto)]
 
 #[cfg(test)]
@@ -15,7 +14,5 @@ mod lms;
 mod merkle;
 #[cfg(test)]
 mod outside;
-#[cfg(test)]
-mod requests;
 #[cfg(test)]
 mod shares;

@@ -1,5 +1,5 @@
-//! Tests of the libraries that a node is made of: configurations, governance, what clients are
-//! answered, and refusals.
+//! Tests of the libraries that a node is made of: configurations, requests of governance and what
+//! they come to, what clients are answered, and refusals.
 #![tactic(auto)]
 
 #[cfg(test)]
@@ -10,3 +10,5 @@ mod config;
 mod gov;
 #[cfg(test)]
 mod refusals;
+#[cfg(test)]
+mod requests;

@@ -25,31 +25,25 @@ use gl_gov_rules::{History, RecordedNode};
 use gl_journal::{Durable, Record};
 use std::alloc::{AllocError, Global};
 
-/// Whether two identifiers are one.
-#[tactic(auto, unfolding(gl_rules::specs::Identity::same))]
-pub(crate) fn is_same(x: &NodeId, y: &NodeId) -> bool
-    ensures { result ≡ same x.now y.now }
-{
-    x == y
-}
-
 /// Whether two votes are one.
+#[tactic(auto, unfolding(gl_rules::specs::Identity::same))]
 fn is_same_vote(x: &Option<NodeId>, y: &Option<NodeId>) -> bool
     ensures { result ≡ is_same_vote x.now y.now }
 {
     match (x, y) {
         (None, None) => true,
-        (Some(x), Some(y)) => is_same(x, y),
+        (Some(x), Some(y)) => x == y,
         _ => false,
     }
 }
 
 /// Whether a node is trusted.
+#[tactic(auto, unfolding(gl_rules::specs::Identity::same))]
 fn is_trusted_node(past: &History, node: &NodeId, recorded: &RecordedNode) -> bool
     ensures { result ≡ (same node.now recorded.now.id
         && is_trusted_status (node_status past.now recorded.now)) }
 {
-    is_same(node, &recorded.id) && is_trusted(past, recorded)
+    *node == recorded.id && is_trusted(past, recorded)
 }
 
 /// Whether one of the recorded nodes is this one and trusted.

@@ -27,7 +27,7 @@ use crate::book_ledger::BookLedger;
 use crate::node_file::NodeFile;
 use crate::node_file::fault::OpeningFault;
 use crate::node_file::ledger_log::LedgerLog;
-use crate::node_file::opening_batch::{ViewVote, is_same};
+use crate::node_file::opening_batch::ViewVote;
 use crate::node_file::opening_ledger::OpeningLedger;
 use crate::node_file::persist::keep_start;
 use crate::store_book::StoreBook;
@@ -97,6 +97,7 @@ fn leading_if(core: Core<StoreBook>, leads: bool) -> Core<StoreBook>
 }
 
 /// Whether the node of a file leads with an opening ledger that the first node signed.
+#[tactic(auto, unfolding(gl_rules::specs::Identity::same))]
 fn leads_at_opening(state: &Durable<LedgerLog>, me: &NodeId, opening: &OpeningLedger) -> bool
     requires { me.now ≡ node_of (seen_state state.now) }
     ensures { result ≡ leads_at_opening (service_start opening.now.ledger opening.now.first)
@@ -105,7 +106,7 @@ fn leads_at_opening(state: &Durable<LedgerLog>, me: &NodeId, opening: &OpeningLe
     match state.start {
         None => false,
         Some(leaves) => {
-            state.reserved == leaves && !state.has_vote_record && is_same(me, &opening.first)
+            state.reserved == leaves && !state.has_vote_record && *me == opening.first
         }
     }
 }

@@ -1,6 +1,6 @@
 //! The first fault of bytes that encode no request, with places worked out by hand.
 
-use super::spelled::{all_actions, genesis, runs};
+use super::encoded::{all_actions, genesis, runs};
 use gl_base::{CodeFault, CutFault, OrNoMemory};
 use gl_requests::GovernanceRequest;
 use std::alloc::Global;

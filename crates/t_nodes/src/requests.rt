@@ -10,9 +10,9 @@ use gl_requests::{
 use std::alloc::Global;
 use std::test::Fail;
 
+mod encoded;
 mod faults;
 mod samples;
-mod spelled;
 
 // The SHA-256 digest of 56 bytes 07.
 const NODE: [u8; 32] = [
@@ -58,16 +58,16 @@ fn is_member_encoded(
 #[test]
 fn encodes_requests_of_nodes(rt: HostRuntime) -> Result<(), Fail> {
     let alloc = rt.alloc();
-    assert!(rt; is_encoded(alloc, &samples::genesis(alloc)?, &spelled::genesis(alloc)?)?);
+    assert!(rt; is_encoded(alloc, &samples::genesis(alloc)?, &encoded::genesis(alloc)?)?);
     assert!(rt;
         is_encoded(
             alloc,
             &samples::recovery(alloc)?,
-            &spelled::recovery(alloc)?
+            &encoded::recovery(alloc)?
         )?
     );
-    assert!(rt; is_encoded(alloc, &samples::join(alloc)?, &spelled::join(alloc)?)?);
-    assert!(rt; is_encoded(alloc, &samples::mark(), &spelled::mark(alloc)?)?);
+    assert!(rt; is_encoded(alloc, &samples::join(alloc)?, &encoded::join(alloc)?)?);
+    assert!(rt; is_encoded(alloc, &samples::mark(), &encoded::mark(alloc)?)?);
     law_of_requests();
     Ok(())
 }
@@ -77,8 +77,8 @@ fn encodes_proposals(rt: HostRuntime) -> Result<(), Fail> {
     let alloc = rt.alloc();
     let (one, all) = (samples::proposal(alloc)?, samples::all_actions(alloc)?);
     assert_eq!(rt; all.proposal_id(alloc)?, PROPOSAL);
-    assert!(rt; is_member_encoded(alloc, one, &spelled::proposal(alloc)?)?);
-    assert!(rt; is_member_encoded(alloc, all, &spelled::all_actions(alloc)?)?);
+    assert!(rt; is_member_encoded(alloc, one, &encoded::proposal(alloc)?)?);
+    assert!(rt; is_member_encoded(alloc, all, &encoded::all_actions(alloc)?)?);
     Ok(())
 }
 
@@ -87,12 +87,12 @@ fn encodes_requests_of_members(rt: HostRuntime) -> Result<(), Fail> {
     let alloc = rt.alloc();
     let ballot = samples::ballot(alloc)?;
     let signed = ballot.signed_bytes(alloc, &[9; 60])?;
-    assert!(rt; signed.as_slice() == spelled::signed_ballot(alloc)?.as_slice());
-    assert!(rt; is_member_encoded(alloc, ballot, &spelled::ballot(alloc)?)?);
-    assert!(rt; is_member_encoded(alloc, samples::ack(alloc)?, &spelled::ack(alloc)?)?);
+    assert!(rt; signed.as_slice() == encoded::signed_ballot(alloc)?.as_slice());
+    assert!(rt; is_member_encoded(alloc, ballot, &encoded::ballot(alloc)?)?);
+    assert!(rt; is_member_encoded(alloc, samples::ack(alloc)?, &encoded::ack(alloc)?)?);
     let withdrawal = samples::withdrawal(alloc)?;
-    assert!(rt; is_member_encoded(alloc, withdrawal, &spelled::withdrawal(alloc)?)?);
-    assert!(rt; is_member_encoded(alloc, samples::share(alloc)?, &spelled::share(alloc)?)?);
+    assert!(rt; is_member_encoded(alloc, withdrawal, &encoded::withdrawal(alloc)?)?);
+    assert!(rt; is_member_encoded(alloc, samples::share(alloc)?, &encoded::share(alloc)?)?);
     Ok(())
 }
 
@@ -101,9 +101,9 @@ fn encodes_the_parts_of_rows(rt: HostRuntime) -> Result<(), Fail> {
     let alloc = rt.alloc();
     assert_eq!(rt; samples::node(alloc)?.id(), NODE);
     let actions = actions_bytes(alloc, samples::actions(alloc)?.as_slice())?;
-    assert!(rt; actions.as_slice() == spelled::actions(alloc)?.as_slice());
+    assert!(rt; actions.as_slice() == encoded::actions(alloc)?.as_slice());
     let dealing = samples::dealing(alloc)?.bytes(alloc)?;
-    assert!(rt; dealing.as_slice() == spelled::dealing(alloc)?.as_slice());
+    assert!(rt; dealing.as_slice() == encoded::dealing(alloc)?.as_slice());
     let rule = Rule {
         num: 513,
         den: 1027,

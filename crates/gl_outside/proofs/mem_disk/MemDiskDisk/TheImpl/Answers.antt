@@ -6,8 +6,8 @@ use Rattle.gl_outside.proofs.mem_disk.MemDiskDisk.TheImpl.Goals as goal
 
 -- The disk is honest, so what is told of its bytes holds.
 
-pub len-reports : goal.len-reports
-len-reports g c = record {
+pub len-tells : goal.len-tells
+len-tells g c = record {
   len = λ h. c.ensures.len;
   image = λ h. c.ensures.image;
   bytes = λ h. c.ensures.bytes;
@@ -19,8 +19,8 @@ len-reports g c = record {
 pub read_at-asks : goal.read_at-asks
 read_at-asks g c = record { within = c.requires.within refl }
 
-pub read_at-reports : goal.read_at-reports
-read_at-reports g c = record {
+pub read_at-tells : goal.read_at-tells
+read_at-tells g c = record {
   read = λ h. c.ensures.read;
   bytes = λ h. c.ensures.bytes;
   past = λ h. c.ensures.past;
@@ -35,16 +35,16 @@ write_at-asks g c = record {
   calls = c.requires.calls;
 }
 
-pub write_at-reports : goal.write_at-reports
-write_at-reports g c = record {
+pub write_at-tells : goal.write_at-tells
+write_at-tells g c = record {
   written = λ h. c.ensures.written;
   past = λ h. c.ensures.past;
   room = c.ensures.room;
   faults = c.ensures.faults;
 }
 
-pub sync-reports : goal.sync-reports
-sync-reports g c = record {
+pub sync-tells : goal.sync-tells
+sync-tells g c = record {
   kept = λ h. c.ensures.kept;
   bytes = λ h. c.ensures.bytes;
   failed = λ h. on_err_too c.result (ap disk_past) c.ensures.failed;
@@ -52,8 +52,8 @@ sync-reports g c = record {
   faults = c.ensures.faults;
 }
 
-pub room-reports : goal.room-reports
-room-reports g c = record {
+pub room-tells : goal.room-tells
+room-tells g c = record {
   room = c.ensures.room;
   kept = c.ensures.kept;
   bytes = λ h. c.ensures.bytes;

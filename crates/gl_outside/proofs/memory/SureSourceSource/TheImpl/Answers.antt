@@ -2,8 +2,8 @@ use Rattle.std.proofs.Common.{refl, arith}
 use Rattle.gl_outside.proofs.memory.SureSourceSource.TheImpl.Goals as goal
 
 -- A read that never fails leaves the count of faults at 0.
-pub read-reports : goal.read-reports
-read-reports g c = record {
+pub read-tells : goal.read-tells
+read-tells g c = record {
   within = c.ensures.within;
   taken = c.ensures.taken;
   end = c.ensures.end;

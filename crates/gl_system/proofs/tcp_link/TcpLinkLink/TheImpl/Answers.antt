@@ -2,8 +2,8 @@ use Rattle.gl_system.proofs.tcp_link.TcpLinkLink.TheImpl.Goals as goal
 
 -- The link isn't honest, so nothing is told of what came and was sent.
 
-pub next-prints : goal.next-prints
-next-prints g c = record {
+pub next-tells : goal.next-tells
+next-tells g c = record {
   past = λ h. cc;
   coming = λ h. cc;
   end = λ h. cc;
@@ -15,8 +15,8 @@ next-prints g c = record {
   send_faults = c.ensures.send_faults;
 }
 
-pub send-prints : goal.send-prints
-send-prints g c = record {
+pub send-tells : goal.send-tells
+send-tells g c = record {
   whole = c.ensures.whole;
   past = λ h. cc;
   inward = cc;

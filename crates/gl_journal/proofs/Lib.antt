@@ -7,3 +7,4 @@ pub mod RecordLaws
 pub mod PayloadLaws
 pub mod DurableLaws
 pub mod Exits
+pub mod UnwrittenFiles

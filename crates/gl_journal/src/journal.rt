@@ -10,6 +10,7 @@ ghost use Rattle.gl_journal.specs.Records.{Key as KeyOf, record_bytes, records_b
 ghost use Rattle.gl_journal.specs.Durable.{GoesOn, Durable as State, durable, key_alone, fold_records, journal_header, OpensToOneOf, OpensToTheSame};
 ghost use Rattle.gl_journal.specs.RecordView.{record_values, state_of};
 ghost use Rattle.gl_journal.specs.Kept.{IsKept, HasBatchRoom};
+ghost use Rattle.gl_journal.specs.Stops.{HasCause};
 ghost use Rattle.gl_journal.specs.declared.fault.JournalFault.{JournalFault};
 
 use crate::durable::Durable;
@@ -84,6 +85,42 @@ impl<D: Disk> Journal<D> {
         begin_batch(&mut self.buffer);
         put_records(&mut self.buffer, records);
         self.gated.append(&mut self.buffer)
+    }
+
+    /// Keeps records as one batch of so many bytes, once there is memory for it. Once it answers
+    /// Ok, the file keeps them whatever comes; out of memory, all is as before. After a failure of
+    /// the disk the journal isn't to be used again.
+    pub fn keep(&mut self, records: &[Record<'_>], len: u64) -> Result<(), OrNoMemory<JournalFault>>
+        requires open { IsTrue D.honest → IsKept D.bytes D.past self.old }
+        requires len { len ≡ length (records_bytes (record_values records.now)) }
+        requires small { len < 2 ^ 32 }
+
+        ensures open { IsTrue D.honest → OnOk result (IsKept D.bytes D.past self.new) }
+        ensures kept { IsTrue D.honest → (goes_on : GoesOn) (state next : State) →
+            durable goes_on (D.bytes self.old.gated.disk) ≡ Ok state →
+            fold_records goes_on state (record_values records.now) ≡ Some next →
+            OnOk result (durable goes_on (D.bytes self.new.gated.disk) ≡ Ok next) }
+        ensures after { IsTrue D.honest → (goes_on : GoesOn) (state next : State) →
+            durable goes_on (D.bytes self.old.gated.disk) ≡ Ok state →
+            fold_records goes_on state (record_values records.now) ≡ Some next →
+            OnOk result ((image : List ℕ) → IsImage (D.past self.new.gated.disk) image →
+            durable goes_on image ≡ Ok next) }
+        ensures any_moment { IsTrue D.honest → (goes_on : GoesOn) (state next : State) →
+            durable goes_on (D.bytes self.old.gated.disk) ≡ Ok state →
+            fold_records goes_on state (record_values records.now) ≡ Some next →
+            Leaves (OpensToOneOf goes_on state next)
+            (D.past self.old.gated.disk) (D.past self.new.gated.disk) }
+        ensures no_memory { IsTrue D.honest → result ≡ Err OrNoMemory.NoMemory →
+            (D.bytes self.new.gated.disk ≡ D.bytes self.old.gated.disk)
+            × (D.past self.new.gated.disk ≡ D.past self.old.gated.disk) }
+        ensures cause { HasCause (D.faults self.old.gated.disk)
+            (D.faults self.new.gated.disk) result }
+        ensures only { (fault : JournalFault) → result ≡ Err (OrNoMemory.Fault fault) →
+            fault ≡ JournalFault.DiskFault }
+    {
+        self.room(len)?;
+        self.commit_batch(records).map_err(JournalFault::from)?;
+        Ok(())
     }
 
     /// Keeps the key as the first batch.

@@ -1,14 +1,12 @@
 //! The one-time leaves of a key file.
 
-ghost use Rattle.std.specs.Prelude.{◌≡◌, ◌⊎◌, ℕ, ◌+◌, ◌<◌, ◌≤◌, ◌^◌, List, length, IsTrue, IfOk, IfErr, OnOk, Ok, Err, Some};
+ghost use Rattle.std.specs.Prelude.{◌≡◌, ◌⊎◌, ℕ, ◌+◌, ◌<◌, ◌≤◌, IsTrue, IfOk, IfErr, OnOk, Ok, Err};
 ghost use Rattle.gl_base.specs.declared.or_no_memory.OrNoMemory.{OrNoMemory};
 ghost use Rattle.gl_outside.specs.Fault.{Rose};
 ghost use Rattle.gl_outside.specs.Disk.{Leaves};
 ghost use Rattle.gl_journal.specs.Stops.{HasCause};
 ghost use Rattle.gl_journal.specs.Kept.{IsKept};
-ghost use Rattle.gl_journal.specs.Records.{records_bytes};
-ghost use Rattle.gl_journal.specs.RecordView.{record_values};
-ghost use Rattle.gl_journal.specs.Durable.{Durable as State, fold_records, leaf_count, OpensToOneOf};
+ghost use Rattle.gl_journal.specs.Durable.{Durable as State, leaf_count, OpensToOneOf};
 ghost use Rattle.gl_journal.specs.declared.fault.JournalFault.{JournalFault};
 ghost use Rattle.gl_keyfile.specs.KeyFile.{any_frame, opened, OpensOnlyTo, disk_of, held, IsOpened};
 ghost use Rattle.gl_keyfile.specs.Leaf.{after_leaf};
@@ -39,42 +37,6 @@ pub struct TakenLeaf<D> {
 
 /// The bytes of a record of a number of leaves.
 const COUNT_LEN: u64 = 9;
-
-/// Keeps records as one batch of so many bytes, once there is memory for it.
-fn keep<D: Disk>(
-    journal: &mut Journal<D>,
-    batch: &[Record<'_>],
-    len: u64,
-) -> Result<(), OrNoMemory<JournalFault>>
-    requires open { IsTrue D.honest → IsKept D.bytes D.past journal.old }
-    requires len { len ≡ length (records_bytes (record_values batch.now)) }
-    requires small { len < 2 ^ 32 }
-
-    ensures kept { IsTrue D.honest → (state next : State) →
-        opened (D.bytes journal.old.gated.disk) ≡ Ok state →
-        fold_records any_frame state (record_values batch.now) ≡ Some next →
-        OnOk result (opened (D.bytes journal.new.gated.disk) ≡ Ok next) }
-    ensures after { IsTrue D.honest → (state next : State) →
-        opened (D.bytes journal.old.gated.disk) ≡ Ok state →
-        fold_records any_frame state (record_values batch.now) ≡ Some next →
-        OnOk result (OpensOnlyTo (D.past journal.new.gated.disk) next) }
-    ensures any_moment { IsTrue D.honest → (state next : State) →
-        opened (D.bytes journal.old.gated.disk) ≡ Ok state →
-        fold_records any_frame state (record_values batch.now) ≡ Some next →
-        Leaves (OpensToOneOf any_frame state next)
-        (D.past journal.old.gated.disk) (D.past journal.new.gated.disk) }
-    ensures no_memory { IsTrue D.honest → result ≡ Err OrNoMemory.NoMemory →
-        (D.bytes journal.new.gated.disk ≡ D.bytes journal.old.gated.disk)
-        × (D.past journal.new.gated.disk ≡ D.past journal.old.gated.disk) }
-    ensures cause { HasCause (D.faults journal.old.gated.disk)
-        (D.faults journal.new.gated.disk) result }
-    ensures only { (fault : JournalFault) → result ≡ Err (OrNoMemory.Fault fault) →
-        fault ≡ JournalFault.DiskFault }
-{
-    journal.room(len)?;
-    journal.commit_batch(batch).map_err(JournalFault::from)?;
-    Ok(())
-}
 
 /// Keeps how many leaves are spent, and for a start that it spent so many, in one batch.
 #[tactic(auto, unfolding(gl_base::specs::LittleEndian::little_endian))]
@@ -109,8 +71,8 @@ fn keep_count<D: Disk>(
     let signer = Record::Signer { reserved };
     let start = Record::Start { leaves: reserved };
     match leaf_use {
-        LeafUse::Signature => keep(journal, &[signer], COUNT_LEN),
-        LeafUse::Start => keep(journal, &[signer, start], 2 * COUNT_LEN),
+        LeafUse::Signature => journal.keep(&[signer], COUNT_LEN),
+        LeafUse::Start => journal.keep(&[signer, start], 2 * COUNT_LEN),
     }
 }
 

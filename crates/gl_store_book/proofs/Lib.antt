@@ -18,7 +18,7 @@ pub mod ServiceStarts
 pub mod FoldedStates
 pub mod OpeningFolds
 pub mod OpeningSizes
-pub mod UnwrittenFiles
+pub mod NodeFiles
 pub mod ServedNodes
 pub mod ValidSteps
 pub mod RestartLaws

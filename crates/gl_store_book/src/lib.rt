@@ -23,6 +23,6 @@ mod store_book;
 pub use book_ledger::BookLedger;
 pub use laws::a_stop_forgets_nothing;
 pub use node_file::opening_batch::ViewVote;
-pub use node_file::persist::{keep, keep_opening};
+pub use node_file::persist::keep_opening;
 pub use node_file::{NodeFile, OpeningFault};
 pub use store_book::StoreBook;

@@ -26,7 +26,7 @@ use gl_journal::{Journal, Key, KeyKind, Record};
 use gl_node::Replica;
 use gl_outside::SureDisk;
 use gl_replication::{Book, Core};
-use gl_store_book::{StoreBook, ViewVote, keep, keep_opening};
+use gl_store_book::{StoreBook, ViewVote, keep_opening};
 use gl_world::{Settings, core_at_start, node_seed};
 use std::alloc::{AllocError, Global};
 
@@ -60,7 +60,7 @@ fn keep_leaves(journal: &mut Journal<SureDisk>, reserved: u32) -> Result<(), All
         reserved ≤ leaf_count state →
         OnOk result (IsMemoryFile journal.new (record state { reserved = reserved })) }
 {
-    match keep(journal, &[Record::Signer { reserved }], 9) {
+    match journal.keep(&[Record::Signer { reserved }], 9) {
         Ok(()) => Ok(()),
         Err(error) => Err(only_memory(error)),
     }

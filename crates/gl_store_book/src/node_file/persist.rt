@@ -11,8 +11,6 @@ ghost use Rattle.gl_outside.specs.Fault.{Rose};
 ghost use Rattle.gl_journal.specs.Durable.{Durable as State, fold_records, OpensToOneOf};
 ghost use Rattle.gl_journal.specs.Kept.{IsKept};
 ghost use Rattle.gl_journal.specs.Records.{records_bytes};
-ghost use Rattle.gl_journal.specs.RecordView.{record_values};
-ghost use Rattle.gl_journal.specs.Stops.{HasCause};
 ghost use Rattle.gl_journal.specs.declared.fault.JournalFault.{JournalFault};
 ghost use Rattle.gl_store_book.specs.AtOpening.{append_records, opened_state, opening_size};
 ghost use Rattle.gl_store_book.specs.Frames.{goes_on_ledger};
@@ -28,49 +26,12 @@ use crate::node_file::opening_ledger::{OpeningLedger, read_opening};
 use gl_base::OrNoMemory;
 use gl_config::NodeId;
 use gl_entry::Entry;
-use gl_journal::{Durable, Journal, JournalFault, Record};
+use gl_journal::{Durable, Journal, JournalFault};
 use gl_outside::Disk;
 use std::alloc::Global;
 
 /// The most bytes that a batch has.
 const BATCH_LIMIT: u64 = 0xffff_ffff;
-
-/// Keeps records as one batch of so many bytes, once there is memory for it.
-pub fn keep<D: Disk>(
-    journal: &mut Journal<D>,
-    batch: &[Record<'_>],
-    len: u64,
-) -> Result<(), OrNoMemory<JournalFault>>
-    requires open { IsTrue D.honest → IsKept D.bytes D.past journal.old }
-    requires len { len ≡ length (records_bytes (record_values batch.now)) }
-    requires small { len < 2 ^ 32 }
-
-    ensures open { IsTrue D.honest → OnOk result (IsKept D.bytes D.past journal.new) }
-    ensures kept { IsTrue D.honest → (state next : State) →
-        opened (D.bytes journal.old.gated.disk) ≡ Ok state →
-        fold_records goes_on_ledger state (record_values batch.now) ≡ Some next →
-        OnOk result (opened (D.bytes journal.new.gated.disk) ≡ Ok next) }
-    ensures after { IsTrue D.honest → (state next : State) →
-        opened (D.bytes journal.old.gated.disk) ≡ Ok state →
-        fold_records goes_on_ledger state (record_values batch.now) ≡ Some next →
-        OnOk result (OpensOnlyTo (D.past journal.new.gated.disk) next) }
-    ensures any_moment { IsTrue D.honest → (state next : State) →
-        opened (D.bytes journal.old.gated.disk) ≡ Ok state →
-        fold_records goes_on_ledger state (record_values batch.now) ≡ Some next →
-        Leaves (OpensToOneOf goes_on_ledger state next)
-        (D.past journal.old.gated.disk) (D.past journal.new.gated.disk) }
-    ensures no_memory { IsTrue D.honest → result ≡ Err OrNoMemory.NoMemory →
-        (D.bytes journal.new.gated.disk ≡ D.bytes journal.old.gated.disk)
-        × (D.past journal.new.gated.disk ≡ D.past journal.old.gated.disk) }
-    ensures cause { HasCause (D.faults journal.old.gated.disk)
-        (D.faults journal.new.gated.disk) result }
-    ensures only { (fault : JournalFault) → result ≡ Err (OrNoMemory.Fault fault) →
-        fault ≡ JournalFault.DiskFault }
-{
-    journal.room(len)?;
-    journal.commit_batch(batch).map_err(JournalFault::from)?;
-    Ok(())
-}
 
 /// Keeps a view and a vote, where one of them is new, and entries whose frames the bytes are, one
 /// after the other. Only a fault of the disk leaves another file than before.
@@ -126,7 +87,7 @@ pub fn keep_opening<D: Disk>(
         return Err(OrNoMemory::Fault(OpeningFault::TooLarge { size }));
     }
     let records = opening_records(alloc, turn, entries, bytes)?;
-    match keep(journal, &records, size) {
+    match journal.keep(&records, size) {
         Ok(()) => Ok(()),
         Err(error) => Err(error.widen()),
     }

@@ -1,11 +1,11 @@
 use Rattle.std.proofs.Common.{◌≡◌, Err, sym, ap, arith}
 use Rattle.gl_base.specs.declared.or_no_memory.OrNoMemory.TheVariants.{Fault}
 use Rattle.gl_journal.specs.declared.fault.JournalFault.TheVariants.{DiskFault}
-use Rattle.gl_keyfile.specs.KeyFile.{held}
+use Rattle.gl_keyfile.specs.KeyFile.{any_frame, held}
 use Rattle.gl_keyfile.specs.Leaf.{after_leaf}
 use Rattle.gl_keyfile.specs.SigningRequest.{use_of}
 use Rattle.gl_keyfile.specs.declared.fault.KeyFileFault.TheVariants.{Journal}
-use Rattle.gl_keyfile.proofs.UnwrittenFiles.{none_done}
+use Rattle.gl_journal.proofs.UnwrittenFiles.{none_done}
 use Rattle.gl_consortium.specs.declared.fault.SigningFault.TheVariants.{DiskFailed}
 use Rattle.gl_consortium.proofs.KeptLeaves.{failed_so, of_keeping}
 use Rattle.gl_consortium.proofs.ExpectedOutputLaws.{expected_fault, expected_no_disk, left_of_reported}
@@ -14,7 +14,7 @@ use Rattle.gl_consortium.proofs.answer.sign.Goals as goal
 pub returns-in-Err-clause-any_moment : goal.returns-in-Err-clause-any_moment
 returns-in-Err-clause-any_moment g c h =
     let file = c.args.file in
-    none_done g.D.Disk.bytes g.D.Disk.past file.journal (g.D.Disk.past c.into_disk.result) (held file) (after_leaf (use_of c.args.signing.now) (held file)) (c.requires.open h).kept (c.requires.open h).state (ap g.D.Disk.past c.into_disk.ensures)
+    none_done any_frame g.D.Disk.bytes g.D.Disk.past file.journal (g.D.Disk.past c.into_disk.result) (held file) (after_leaf (use_of c.args.signing.now) (held file)) (c.requires.open h).kept (c.requires.open h).state (ap g.D.Disk.past c.into_disk.ensures)
 
 pub returns-in-Err-clause-disk_fault : goal.returns-in-Err-clause-disk_fault
 returns-in-Err-clause-disk_fault g c is =

@@ -1,6 +1,6 @@
 use Rattle.std.proofs.Common.{◌∙◌}
 use Rattle.gl_store_book.specs.NodeFile.{seen_state}
-use Rattle.gl_store_book.proofs.UnwrittenFiles.{limited}
+use Rattle.gl_store_book.proofs.NodeFiles.{limited}
 use Rattle.gl_store_book.proofs.node_file.open_journal.Goals as goal
 
 pub returns-in-Ok-clause-durable : goal.returns-in-Ok-clause-durable

@@ -1,3 +1,4 @@
+use Rattle.gl_store_book.specs.Frames.{goes_on_ledger}
 use Rattle.ccfg.proofs.FileNodes.{as_plain_fault, as_plain_other, never_rose}
 use Rattle.ccfg.proofs.FileStarts.{leaves_fold}
 use Rattle.ccfg.proofs.schedule_nodes.start.keep_leaves.Goals as goal
@@ -13,5 +14,5 @@ only_memory-requires c = λ fault is.
 pub returns-in-Ok : goal.returns-in-Ok
 returns-in-Ok c = λ state here low high. record {
   kept = λ honest. c.in-Ok.ensures.«open» honest;
-  opens = λ honest. c.in-Ok.ensures.kept honest state (record state { reserved = c.args.reserved }) (here.opens honest) (leaves_fold state c.args.reserved low high);
+  opens = λ honest. c.in-Ok.ensures.kept honest goes_on_ledger state (record state { reserved = c.args.reserved }) (here.opens honest) (leaves_fold state c.args.reserved low high);
 }

@@ -1,14 +1,16 @@
 use Rattle.std.proofs.Common.{refl, ap, ◌∙◌}
 use Rattle.gl_audit.specs.Committed.{Held}
+use Rattle.gl_journal.proofs.UnwrittenFiles.{none_done}
 use Rattle.gl_store_book.specs.AtOpening.{opened_state}
+use Rattle.gl_store_book.specs.Frames.{goes_on_ledger}
 use Rattle.gl_store_book.specs.NodeFile.{seen_state}
-use Rattle.gl_store_book.proofs.UnwrittenFiles.{none_done, read_folds}
+use Rattle.gl_store_book.proofs.NodeFiles.{read_folds}
 use Rattle.gl_store_book.proofs.node_file.persist.keep_start.Goals as goal
 
 pub returns-in-Err-NoMemory-clause-any_moment : goal.returns-in-Err-NoMemory-clause-any_moment
 returns-in-Err-NoMemory-clause-any_moment g c h s starts =
     let d = seen_state c.args.state.now in
-    none_done g.D.Disk.bytes g.D.Disk.past c.args.journal.now (g.D.Disk.past c.args.journal.now.gated.disk) d (opened_state s d) (c.requires.file.kept h) (c.requires.file.opens h) refl
+    none_done goes_on_ledger g.D.Disk.bytes g.D.Disk.past c.args.journal.now (g.D.Disk.past c.args.journal.now.gated.disk) d (opened_state s d) (c.requires.file.kept h) (c.requires.file.opens h) refl
 
 pub returns-in-Ok-keep_opening-clause-open : goal.returns-in-Ok-keep_opening-clause-open
 returns-in-Ok-keep_opening-clause-open g c s starts =

@@ -4,22 +4,21 @@ use Rattle.gl_outside.specs.Disk.{Step, Leaves}
 use Rattle.gl_outside.proofs.Moments.{started, stayed}
 use Rattle.gl_journal.specs.Stops.{IsSettled}
 use Rattle.gl_journal.specs.Kept.{IsKept}
-use Rattle.gl_journal.specs.Durable.{Durable, journal_header, OpensToOneOf}
+use Rattle.gl_journal.specs.Durable.{Durable, GoesOn, durable, journal_header, OpensToOneOf}
 use Rattle.gl_journal.specs.declared.journal.Journal.{Journal}
 use Rattle.gl_journal.proofs.Appending.{settled_gate}
-use Rattle.gl_keyfile.specs.KeyFile.{any_frame, opened}
 
-settled_here : (place : ℕ) (bytes : List ℕ) (past after : List Step) (state next : Durable) → IsSettled journal_header place bytes past → opened bytes ≡ Ok state → after ≡ past → Leaves (OpensToOneOf any_frame state next) past after
-settled_here place bytes past after state next settled is same =
-    let P = OpensToOneOf any_frame state next in
+settled_here : (goes_on : GoesOn) (place : ℕ) (bytes : List ℕ) (past after : List Step) (state next : Durable) → IsSettled journal_header place bytes past → durable goes_on bytes ≡ Ok state → after ≡ past → Leaves (OpensToOneOf goes_on state next) past after
+settled_here goes_on place bytes past after state next settled is same =
+    let P = OpensToOneOf goes_on state next in
     let here : P bytes = (settled_gate journal_header place bytes past settled, inl is) in
     stayed P past past after (started P past (λ image left. subst P (sym (settled.kept image left)) here)) same
 
 -- nothing was done to a settled journal
-pub none_done : {D : Type 0} (bytes : D → List ℕ) (past : D → List Step) (journal : Journal D) (after : List Step) (state next : Durable) → IsKept bytes past journal → opened (bytes journal.gated.disk) ≡ Ok state → after ≡ past journal.gated.disk
-    → Leaves (OpensToOneOf any_frame state next) (past journal.gated.disk) after
-none_done bytes past journal after state next kept is same =
-    settled_here journal.gated.place (bytes journal.gated.disk) (past journal.gated.disk) after state next
+pub none_done : {D : Type 0} (goes_on : GoesOn) (bytes : D → List ℕ) (past : D → List Step) (journal : Journal D) (after : List Step) (state next : Durable) → IsKept bytes past journal → durable goes_on (bytes journal.gated.disk) ≡ Ok state → after ≡ past journal.gated.disk
+    → Leaves (OpensToOneOf goes_on state next) (past journal.gated.disk) after
+none_done goes_on bytes past journal after state next kept is same =
+    settled_here goes_on journal.gated.place (bytes journal.gated.disk) (past journal.gated.disk) after state next
     (subst (λ (header : List ℕ). IsSettled header journal.gated.place (bytes journal.gated.disk) (past journal.gated.disk)) kept.header kept.settled) is same
 
 -- what holds where a call succeeds, and it did

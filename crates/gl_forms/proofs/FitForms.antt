@@ -15,7 +15,8 @@ use Rattle.gl_requests.specs.declared.genesis.ServiceState.{ServiceState}
 use Rattle.gl_requests.specs.declared.action.Rule.{Rule}
 use Rattle.gl_requests.specs.declared.action.Action.{Action}
 use Rattle.gl_requests.specs.declared.request.MemberAct.{MemberAct}
-use Rattle.gl_forms.specs.Form.{value_in, text_in, flag_in, number_in, sized_in, endorsement_in, pair_in, some_object_in, object_at, member_at, half_at, word_at}
+use Rattle.gl_json.specs.Form.{value_in, text_in, sized_in}
+use Rattle.gl_forms.specs.Form.{flag_in, number_in, endorsement_in, pair_in, some_object_in, object_at, member_at, half_at, word_at}
 use Rattle.gl_forms.specs.Parts.{member_in, node_in, share_in, dealing_names, dealing_in, dealing_at}
 use Rattle.gl_forms.specs.Actions.{set_member_in, remove_member_in, set_threshold_in, node_id_in, trust_node_in, remove_node_in, open_service_in, action_names, rule_at, rules_of, rules_in, set_constitution_in, action_named, action_in, actions_in}
 use Rattle.gl_forms.specs.Requests.{ack_in, propose_in, ballot_in, withdraw_in, share_act_in, act_named, act_in}

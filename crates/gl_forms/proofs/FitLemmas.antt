@@ -18,9 +18,10 @@ use Rattle.gl_base.specs.declared.json.FormsFault.{FormsFault}
 use Rattle.gl_base.specs.declared.or_no_memory.OrNoMemory.{OrNoMemory}
 use Rattle.gl_base.proofs.ByteLists.{are_bytes-true}
 use Rattle.gl_requests.specs.Ranges.{is_signature_field}
-use Rattle.gl_forms.specs.Form.{text_in, number_in, has_so_many, list_in, is_lower_digit, lower_digits, decoded, sized_in, not_too_long, long_digits_in, endorsement_in, at, elements_from, list_at}
-use Rattle.gl_forms.specs.declared.form_error.FormError.{FormError}
-use Rattle.gl_forms.specs.declared.form_error.FormError.TheVariants.{Shape, Hex}
+use Rattle.gl_json.specs.Form.{text_in, is_lower_digit, lower_digits, decoded, sized_in, at}
+use Rattle.gl_forms.specs.Form.{number_in, has_so_many, list_in, not_too_long, long_digits_in, endorsement_in, elements_from, list_at}
+use Rattle.gl_json.specs.declared.form_error.FormError.{FormError}
+use Rattle.gl_json.specs.declared.form_error.FormError.TheVariants.{Shape, Hex}
 
 -- ---- readings
 

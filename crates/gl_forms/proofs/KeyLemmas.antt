@@ -7,14 +7,15 @@ use Rattle.hex.proofs.HexLemmas.{length-encode_with, decode_of-encode_lower, dec
 use Rattle.serde_json.specs.Data.{Data, depth}
 use Rattle.serde_json.specs.Read.{read, max_depth}
 use Rattle.gl_base.specs.Bytes.{mebibyte}
-use Rattle.gl_forms.specs.Form.{sized_in, endorsement_in, word_at}
+use Rattle.gl_json.specs.Form.{sized_in}
+use Rattle.gl_forms.specs.Form.{endorsement_in, word_at}
 use Rattle.gl_forms.specs.Key.{one_key_in, optional_endorsement_in, node_key_in, key_of_kind, key_in, hex_tree, key_tree}
 use Rattle.gl_forms.specs.Ranges.{IsSized, IsKey, has_short_endorsement}
 use Rattle.gl_forms.specs.Text.{from_text}
 use Rattle.gl_forms.specs.declared.key.KeyForm.{KeyForm}
 use Rattle.gl_forms.specs.declared.key.KeyForm.TheVariants.{Service, Member, Node}
-use Rattle.gl_forms.proofs.HexLemmas.{all_lower}
-use Rattle.gl_forms.proofs.TextLemmas.{tree_is}
+use Rattle.gl_json.proofs.HexLemmas.{all_lower}
+use Rattle.gl_json.proofs.TextLemmas.{tree_is}
 
 sized_in-tree : (size : ℕ) (bytes : List ℕ) → IsSized size bytes → sized_in size (Some (hex_tree bytes)) ≡ Ok bytes
 sized_in-tree size bytes is =

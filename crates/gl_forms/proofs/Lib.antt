@@ -1,4 +1,4 @@
-pub mod ObjectLemmas
+pub mod ListLemmas
 pub mod TextLemmas
 pub mod ElementLemmas
 pub mod RuleLemmas

@@ -6,7 +6,8 @@ use Rattle.gl_base.specs.Json.{member_of}
 use Rattle.gl_base.specs.Steps.{◌>>=◌}
 use Rattle.gl_base.specs.declared.json.FormsFault.{FormsFault}
 use Rattle.gl_base.specs.declared.json.FormsFault.TheVariants as faults
-use Rattle.gl_forms.specs.Form.{value_in, text_in, pair_in, some_object_in, object_at, member_at, half_at, list_at}
+use Rattle.gl_json.specs.Form.{value_in, text_in}
+use Rattle.gl_forms.specs.Form.{pair_in, some_object_in, object_at, member_at, half_at, list_at}
 use Rattle.gl_forms.specs.Parts.{digest_in, member_number_in, member_in, dealing_in}
 use Rattle.gl_requests.specs.declared.action.Rule.{Rule}
 use Rattle.gl_requests.specs.declared.action.Action.{Action}

@@ -6,8 +6,9 @@ use Rattle.serde_json.specs.Data.{Data}
 use Rattle.gl_base.specs.Json.{member_of}
 use Rattle.gl_base.specs.Steps.{◌>>=◌}
 use Rattle.gl_base.specs.declared.json.FormsFault.{FormsFault}
-use Rattle.gl_forms.specs.declared.form_error.FormError.{FormError}
-use Rattle.gl_forms.specs.Form.{value_in, number_in, sized_in, endorsement_in, object_at, member_at, list_at}
+use Rattle.gl_json.specs.declared.form_error.FormError.{FormError}
+use Rattle.gl_json.specs.Form.{value_in, sized_in}
+use Rattle.gl_forms.specs.Form.{number_in, endorsement_in, object_at, member_at, list_at}
 use Rattle.gl_requests.specs.declared.genesis.NewNode.{NewNode}
 use Rattle.gl_requests.specs.declared.genesis.NewMember.{NewMember}
 use Rattle.gl_requests.specs.declared.genesis.ShareDigest.{ShareDigest}

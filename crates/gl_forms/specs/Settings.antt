@@ -4,9 +4,10 @@ use Rattle.serde_json.specs.Data.{Data}
 use Rattle.gl_base.specs.Bytes.{same_bytes}
 use Rattle.gl_base.specs.Steps.{◌>>=◌}
 use Rattle.gl_base.specs.declared.json.FormsFault.{FormsFault}
-use Rattle.gl_forms.specs.declared.form_error.FormError.{FormError}
-use Rattle.gl_forms.specs.declared.form_error.FormError.TheVariants.{Shape}
-use Rattle.gl_forms.specs.Form.{text_in, object_at, member_at, list_at}
+use Rattle.gl_json.specs.declared.form_error.FormError.{FormError}
+use Rattle.gl_json.specs.declared.form_error.FormError.TheVariants.{Shape}
+use Rattle.gl_json.specs.Form.{text_in}
+use Rattle.gl_forms.specs.Form.{object_at, member_at, list_at}
 use Rattle.gl_forms.specs.Parts.{hss_key_in, member_in, node_in, dealing_at}
 use Rattle.gl_requests.specs.declared.genesis.ServiceState.{ServiceState}
 use Rattle.gl_requests.specs.declared.genesis.ServiceState.TheVariants.{Opening, Open}

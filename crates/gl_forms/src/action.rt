@@ -8,12 +8,13 @@ ghost use Rattle.gl_forms.specs.Place.{pointer_of};
 ghost use Rattle.serde_json.specs.View.{view};
 
 use crate::element::{Element, list_at};
-use crate::form_error::FormError;
+use crate::fault::fault_at;
 use crate::object::{byte_at, half_at, object_at, sized_at, text_at, value_at};
 use crate::part::dealing_in;
 use crate::place::Place;
 use crate::value::{pair_in, some_object_in};
 use gl_base::{FormsFault, OrNoMemory, Sequence};
+use gl_json::FormError;
 use gl_requests::{Action, NewMember, NodeId, Rule};
 use serde_json::Value;
 use std::alloc::Global;
@@ -123,7 +124,7 @@ fn pair_at<'a>(
 {
     match pair_in(value.get(name)) {
         Ok(pair) => Ok(pair),
-        Err(form_error) => Err(form_error.at(alloc, &Place::Member(place, name))),
+        Err(form_error) => Err(fault_at(alloc, &Place::Member(place, name), form_error)),
     }
 }
 
@@ -215,7 +216,7 @@ fn action_named(
     } else if name == "set_constitution" {
         set_constitution_in(alloc, place, args)
     } else {
-        Err(FormError::Shape.at(alloc, named))
+        Err(fault_at(alloc, named, FormError::Shape))
     }
 }
 
@@ -231,7 +232,7 @@ fn some_object_at<'a>(
 {
     match some_object_in(value.get(name)) {
         Ok(object) => Ok(object),
-        Err(form_error) => Err(form_error.at(alloc, &Place::Member(place, name))),
+        Err(form_error) => Err(fault_at(alloc, &Place::Member(place, name), form_error)),
     }
 }
 

@@ -9,6 +9,7 @@ ghost use Rattle.gl_forms.specs.Place.{pointer_of};
 ghost use Rattle.serde_json.specs.Data.{Data};
 ghost use Rattle.serde_json.specs.View.{view, items_view};
 
+use crate::fault::fault_at;
 use crate::place::Place;
 use crate::value::list_in;
 use gl_base::{FormsFault, OrNoMemory, Sequence};
@@ -68,6 +69,6 @@ pub(crate) fn list_at<T: Element>(
     let place = Place::Member(place, name);
     match list_in(value.get(name), low, high) {
         Ok(values) => Ok(Sequence::from(elements_at(alloc, &place, values)?)),
-        Err(form_error) => Err(form_error.at(alloc, &place)),
+        Err(form_error) => Err(fault_at(alloc, &place, form_error)),
     }
 }

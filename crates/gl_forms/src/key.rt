@@ -8,11 +8,11 @@ ghost use Rattle.gl_forms.specs.Text.{from_text};
 ghost use Rattle.gl_forms.specs.Ranges.{is_key};
 ghost use Rattle.serde_json.specs.View.{view};
 
-use crate::form_error::FormError;
+use crate::fault::fault_at;
 use crate::object::{endorsement_at, object_at, sized_at, word_at};
 use crate::place::Place;
-use crate::tree::read_tree;
 use gl_base::{Bytes, FormsFault, OrNoMemory};
+use gl_json::{FormError, read_tree};
 use gl_requests::{HssPublicKey, LmsPublicKey, NodeId};
 use serde_json::Value;
 use std::alloc::Global;
@@ -106,7 +106,11 @@ fn key_of_kind(alloc: Global, kind: &str, value: &Value) -> Result<KeyForm, OrNo
     } else if kind == "node" {
         node_key_in(alloc, value)
     } else {
-        Err(FormError::Shape.at(alloc, &Place::Member(&Place::Whole, "kind")))
+        Err(fault_at(
+            alloc,
+            &Place::Member(&Place::Whole, "kind"),
+            FormError::Shape,
+        ))
     }
 }
 

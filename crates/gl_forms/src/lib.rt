@@ -5,7 +5,7 @@
 
 mod action;
 mod element;
-mod form_error;
+mod fault;
 mod key;
 mod key_tree;
 mod object;
@@ -13,11 +13,10 @@ mod part;
 mod place;
 mod request;
 mod settings;
-mod tree;
 mod value;
 
+pub use gl_json::read_tree;
 pub use key::{KeyForm, read_key};
 pub use key_tree::write_key;
 pub use request::{proposal_in, read_proposal, read_request};
 pub use settings::{read_recovery, read_settings};
-pub use tree::read_tree;

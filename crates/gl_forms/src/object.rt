@@ -2,17 +2,17 @@
 
 ghost use Rattle.std.specs.Prelude.{◌≡◌, map};
 ghost use Rattle.gl_base.specs.Answers.{Answers};
-ghost use Rattle.gl_forms.specs.Form.{value_in, text_in, flag_in, number_in, sized_in, endorsement_in, decoded, at, object_at, member_at, half_at, word_at};
+ghost use Rattle.gl_forms.specs.Form.{flag_in, number_in, endorsement_in, object_at, member_at, half_at, word_at};
 ghost use Rattle.gl_forms.specs.Place.{pointer_of};
+ghost use Rattle.gl_json.specs.Form.{value_in, text_in, sized_in, decoded, at};
 ghost use Rattle.hex.specs.Hex.{decode_of};
 ghost use Rattle.serde_json.specs.View.{view};
 
-use crate::form_error::FormError;
+use crate::fault::fault_at;
 use crate::place::Place;
-use crate::value::{
-    flag_in, long_digits_in, number_in, only_members_in, sized_in, text_in, value_in,
-};
+use crate::value::{flag_in, long_digits_in, number_in};
 use gl_base::{Bytes, FormsFault, OrNoMemory};
+use gl_json::{FormError, only_members_in, sized_in, text_in, value_in};
 use hex::FromHexError;
 use serde_json::Value;
 use std::alloc::Global;
@@ -27,7 +27,7 @@ fn report<T>(
 {
     match found {
         Ok(value) => Ok(value),
-        Err(form_error) => Err(form_error.at(alloc, place)),
+        Err(form_error) => Err(fault_at(alloc, place, form_error)),
     }
 }
 
@@ -56,7 +56,7 @@ pub(crate) fn value_at<'a>(
 {
     match value_in(value.get(name)) {
         Ok(found) => Ok(found),
-        Err(form_error) => Err(form_error.at(alloc, &Place::Member(place, name))),
+        Err(form_error) => Err(fault_at(alloc, &Place::Member(place, name), form_error)),
     }
 }
 
@@ -71,7 +71,7 @@ pub(crate) fn text_at<'a>(
 {
     match text_in(value.get(name)) {
         Ok(text) => Ok(text),
-        Err(form_error) => Err(form_error.at(alloc, &Place::Member(place, name))),
+        Err(form_error) => Err(fault_at(alloc, &Place::Member(place, name), form_error)),
     }
 }
 
@@ -100,7 +100,7 @@ pub(crate) fn byte_at(
 {
     match number_in(value.get(name), low as u64, 0xff) {
         Ok(number) => Ok(number as u8),
-        Err(form_error) => Err(form_error.at(alloc, &Place::Member(place, name))),
+        Err(form_error) => Err(fault_at(alloc, &Place::Member(place, name), form_error)),
     }
 }
 
@@ -115,7 +115,7 @@ pub(crate) fn half_at(
 {
     match number_in(value.get(index), 0, 0xffff) {
         Ok(number) => Ok(number as u16),
-        Err(form_error) => Err(form_error.at(alloc, &Place::Item(place, index as u64))),
+        Err(form_error) => Err(fault_at(alloc, &Place::Item(place, index as u64), form_error)),
     }
 }
 
@@ -144,7 +144,7 @@ fn decoded_at(alloc: Global, place: &Place, digits: &str) -> Result<Bytes, OrNoM
     match hex::decode(alloc, digits) {
         Ok(bytes) => Ok(Bytes::from(bytes)),
         Err(FromHexError::OutOfMemory) => Err(OrNoMemory::NoMemory),
-        Err(_) => Err(FormError::Hex.at(alloc, place)),
+        Err(_) => Err(fault_at(alloc, place, FormError::Hex)),
     }
 }
 
@@ -160,7 +160,7 @@ pub(crate) fn endorsement_at(
 {
     match long_digits_in(value.get(name)) {
         Ok(digits) => decoded_at(alloc, &Place::Member(place, name), digits),
-        Err(form_error) => Err(form_error.at(alloc, &Place::Member(place, name))),
+        Err(form_error) => Err(fault_at(alloc, &Place::Member(place, name), form_error)),
     }
 }
 
@@ -178,6 +178,6 @@ pub(crate) fn word_at<'a>(
 {
     match value.get(name) {
         Some(_) => text_at(alloc, place, name, value),
-        None => Err(FormError::Shape.at(alloc, place)),
+        None => Err(fault_at(alloc, place, FormError::Shape)),
     }
 }

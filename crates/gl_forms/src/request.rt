@@ -8,11 +8,11 @@ ghost use Rattle.gl_requests.specs.Ranges.{are_actions, is_act};
 ghost use Rattle.serde_json.specs.View.{view};
 
 use crate::action::actions_in;
-use crate::form_error::FormError;
+use crate::fault::fault_at;
 use crate::object::{flag_at, object_at, sized_at, word_at};
 use crate::place::Place;
-use crate::tree::read_tree;
 use gl_base::{FormsFault, OrNoMemory, Sequence};
+use gl_json::{FormError, read_tree};
 use gl_requests::{Action, MemberAct};
 use serde_json::Value;
 use std::alloc::Global;
@@ -87,7 +87,7 @@ fn act_named(alloc: Global, op: &str, value: &Value) -> Result<MemberAct, OrNoMe
     } else if op == "share" {
         share_act_in(alloc, value)
     } else {
-        Err(FormError::Shape.at(alloc, &Place::Member(&Place::Whole, "op")))
+        Err(fault_at(alloc, &Place::Member(&Place::Whole, "op"), FormError::Shape))
     }
 }
 

@@ -9,12 +9,12 @@ ghost use Rattle.gl_requests.specs.Ranges.{is_genesis, is_recovery};
 ghost use Rattle.serde_json.specs.View.{view};
 
 use crate::element::list_at;
-use crate::form_error::FormError;
+use crate::fault::fault_at;
 use crate::object::{object_at, sized_at, text_at};
 use crate::part::dealing_at;
 use crate::place::Place;
-use crate::tree::read_tree;
 use gl_base::{FormsFault, OrNoMemory};
+use gl_json::{FormError, read_tree};
 use gl_requests::{Genesis, Recovery, ServiceState};
 use serde_json::Value;
 use std::alloc::Global;
@@ -44,7 +44,7 @@ fn state_at(
     let text = text_at(alloc, &Place::Whole, name, value)?;
     match state_named(text) {
         Ok(state) => Ok(state),
-        Err(form_error) => Err(form_error.at(alloc, &Place::Member(&Place::Whole, name))),
+        Err(form_error) => Err(fault_at(alloc, &Place::Member(&Place::Whole, name), form_error)),
     }
 }
 

@@ -1,27 +1,13 @@
 //! Values of a JSON tree that have the form that is wanted. One that is missing has another shape.
 
-ghost use Rattle.std.specs.Prelude.{◌≡◌, ◌≤◌, map, option_map, is_some, IfOk};
-ghost use Rattle.std.specs.List.{list_all};
-ghost use Rattle.gl_forms.specs.Form.{Finds, value_in, text_in, flag_in, number_in, has_so_many, list_in, pair_in, some_object_in, not_too_long, lower_digits, long_digits_in, sized_in, has_count, only_members_in, is_lower_digit};
-ghost use Rattle.serde_json.specs.Find.{get, as_object};
+ghost use Rattle.std.specs.Prelude.{◌≡◌, ◌≤◌, option_map, IfOk};
+ghost use Rattle.gl_forms.specs.Form.{flag_in, number_in, has_so_many, list_in, pair_in, some_object_in, not_too_long, long_digits_in};
+ghost use Rattle.gl_json.specs.Form.{Finds};
 ghost use Rattle.serde_json.specs.View.{view, items_view};
 
-use crate::form_error::FormError;
 use gl_base::MEBIBYTE;
-use hex::FromHex;
+use gl_json::{FormError, lower_digits, text_in, value_in};
 use serde_json::Value;
-
-pub(crate) fn value_in(value: Option<&Value>) -> Result<&Value, FormError>
-    ensures { Finds (λ v. view v.now) result (value_in (option_map (λ v. view v.now) value.entry)) }
-{
-    value.ok_or(FormError::Shape)
-}
-
-pub(crate) fn text_in(value: Option<&Value>) -> Result<&str, FormError>
-    ensures { Finds (λ s. s.now) result (text_in (option_map (λ v. view v.now) value.entry)) }
-{
-    value.and_then(Value::as_str).ok_or(FormError::Shape)
-}
 
 pub(crate) fn flag_in(value: Option<&Value>) -> Result<bool, FormError>
     ensures { result ≡ flag_in (option_map (λ v. view v.now) value.entry) }
@@ -81,24 +67,6 @@ pub(crate) fn some_object_in(value: Option<&Value>) -> Result<&Value, FormError>
     value_in(value)
 }
 
-fn is_lower_hex(text: &[u8]) -> bool
-    ensures { result ≡ list_all is_lower_digit text.now }
-{
-    text.iter()
-        .all(|byte| matches!(*byte, b'0'..=b'9' | b'a'..=b'f'))
-}
-
-/// The text, if it has digits of lower-case hexadecimal alone.
-fn lower_digits(text: &str) -> Result<&str, FormError>
-    ensures { Finds (λ s. s.now) result (lower_digits text.now) }
-{
-    if is_lower_hex(text.as_bytes()) {
-        Ok(text)
-    } else {
-        Err(FormError::Hex)
-    }
-}
-
 /// The text, if it is not too long for 1 MiB of bytes.
 fn not_too_long(text: &str) -> Result<&str, FormError>
     ensures { Finds (λ s. s.now) result (not_too_long text.now) }
@@ -116,38 +84,4 @@ pub(crate) fn long_digits_in(value: Option<&Value>) -> Result<&str, FormError>
         (long_digits_in (option_map (λ v. view v.now) value.entry)) }
 {
     lower_digits(not_too_long(text_in(value)?)?)
-}
-
-/// The `N` bytes of a text in lower-case hexadecimal.
-pub(crate) fn sized_in<const N: usize>(value: Option<&Value>) -> Result<[u8; N], FormError>
-    ensures { result ≡ sized_in N (option_map (λ v. view v.now) value.entry) }
-{
-    let digits = lower_digits(text_in(value)?)?;
-    <[u8; N] as FromHex>::from_hex(digits).map_err(|_| FormError::Hex)
-}
-
-fn has_count(value: &Value, count: usize) -> bool
-    ensures { result ≡ has_count count (as_object (view value.now)) }
-{
-    match value.as_object() {
-        Some(members) => members.len() == count,
-        None => false,
-    }
-}
-
-fn has_each(value: &Value, names: &[&str]) -> bool
-    ensures { result ≡ list_all (λ name. is_some (get name.now (view value.now))) names.now }
-{
-    names.iter().all(|name| value.get(*name).is_some())
-}
-
-/// Nothing, if the value is an object with exactly the members of these names.
-pub(crate) fn only_members_in(names: &[&str], value: &Value) -> Result<(), FormError>
-    ensures { result ≡ only_members_in (map (λ s. s.now) names.now) (view value.now) }
-{
-    if has_count(value, names.len()) && has_each(value, names) {
-        Ok(())
-    } else {
-        Err(FormError::Shape)
-    }
 }

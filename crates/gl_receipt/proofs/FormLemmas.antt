@@ -1,32 +1,19 @@
 -- The tree that is written for a receipt is read as the receipt.
-use Rattle.std.proofs.Common.{◌≡◌, ℕ, suc, ◌^◌, ◌<◌, Bool, true, cond, ◌&&◌, List, [], ◌∷◌, length, map, Result, Ok, Err, Some, String, Global, Bor, nat_lt, refl, ap, arith}
-use Rattle.std.specs.List.{AllByRecursion, list_all}
-use Rattle.std.specs.Option.{is_some}
-use Rattle.std.proofs.lemmas.List.{length-map}
-use Rattle.std.proofs.lemmas.List.Folds.{list_all-map}
-use Rattle.serde_json.specs.Find.{get, as_object}
+use Rattle.std.proofs.Common.{◌≡◌, ℕ, suc, ◌^◌, ◌<◌, true, List, [], ◌∷◌, map, Ok, Some, nat_lt, refl, arith}
+use Rattle.std.specs.List.{AllByRecursion}
 use Rattle.std.proofs.lemmas.Bool.Decides.{nat_tests}
 use Rattle.hex.specs.Hex.{IsBytes}
 use Rattle.hex.proofs.HexLemmas.{decode_of-encode_lower, decode_sized-encode_lower}
-use Rattle.serde_json.specs.Data.{Data}
-use Rattle.serde_json.specs.Events.{members_len}
-use Rattle.serde_json.specs.View.{items_of, members_view}
-use Rattle.serde_json.specs.declared.value.Value.{Value}
+use Rattle.serde_json.specs.View.{items_of}
 use Rattle.gl_merkle.specs.declared.tree.Step.{Step}
 use Rattle.gl_merkle.specs.declared.tree.Step.TheVariants.{Left, Right}
-use Rattle.gl_receipt.specs.Form.{has_count, object_in, bytes_in, digest_in, sibling_in, step_in, steps_from, proof_in, leaf_components_in, signed_in, receipt_in}
+use Rattle.gl_receipt.specs.Form.{bytes_in, digest_in, sibling_in, step_in, steps_from, proof_in, leaf_components_in, signed_in, receipt_in}
 use Rattle.gl_receipt.specs.Ranges.{IsDigest, HasDigest, IsReceipt}
 use Rattle.gl_receipt.specs.Tree.{hex_tree, step_tree, leaf_components_tree, proof_tree, signed_tree, receipt_tree}
 use Rattle.gl_receipt.specs.declared.components.LeafComponents.{LeafComponents}
 use Rattle.gl_receipt.specs.declared.components.Signed.{Signed}
 use Rattle.gl_receipt.specs.declared.components.Receipt.{Receipt}
-use Rattle.gl_receipt.specs.declared.form.FormError.{FormError}
-use Rattle.gl_receipt.specs.declared.form.FormError.TheVariants.{Shape}
-use Rattle.gl_receipt.proofs.HexLemmas.{all_lower}
-
-pub members_len-view : (es : List (String Global × Value)) → members_len (members_view es) ≡ length es
-members_len-view [] = refl
-members_len-view (e ∷ es) = ap suc (members_len-view es)
+use Rattle.gl_json.proofs.HexLemmas.{all_lower}
 
 digest_in-tree : (bytes : List ℕ) → IsDigest bytes → digest_in (Some (hex_tree bytes)) ≡ Ok bytes
 digest_in-tree bytes is =
@@ -75,12 +62,3 @@ receipt_in-tree r is =
       bytes_in-tree r.signature is.signature,
       signed_in-tree r.signed is.view,
     ) refl
-
--- the test of an object's members, by its two parts
-pub object_in-parts : (names : List (Bor (List ℕ))) (value : Data) (count each : Bool)
-    → count ≡ has_count (length names) (as_object value) → each ≡ list_all (λ name. is_some (get name.now value)) names
-    → object_in (map (λ s. s.now) names) value ≡ cond {A = Result (Unit {0}) FormError} (count && each) (Ok tt) (Err Shape)
-object_in-parts names value count each e f =
-    let size = length-map names (λ (s : Bor (List ℕ)). s.now) in
-    let all = list_all-map (λ (name : List ℕ). is_some (get name value)) (λ (s : Bor (List ℕ)). s.now) names in
-    rw (size, all, ← e, ← f) refl

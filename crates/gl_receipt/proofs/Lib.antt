@@ -1,5 +1,4 @@
 pub mod EvidenceLemmas
-pub mod HexLemmas
 pub mod FormLemmas
 pub mod TreeLemmas
 pub mod LawLemmas

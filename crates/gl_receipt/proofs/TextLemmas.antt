@@ -1,33 +1,18 @@
--- Texts and the trees that they are.
-use Rattle.std.proofs.Common.{◌≡◌, ℕ, true, false, List, Some, None, Result, Ok, Err, inl, inr, IfOk, ◌≤◌, refl, ap, ◌∙◌}
-use Rattle.std.specs.Str.{IsUtf8, is_utf8}
-use Rattle.std.proofs.lemmas.Str.{IsUtf8-from_is_utf8, is_utf8-from_IsUtf8}
-use Rattle.std.proofs.lemmas.Bool.{cases_Bool}
-use Rattle.serde_json.specs.Data.{Data, depth}
+-- The text that is written is read back.
+use Rattle.std.proofs.Common.{◌≡◌, ℕ, false, List, Some, Result, Ok, Err, IfOk, ◌≤◌, ap, ◌∙◌}
+use Rattle.std.specs.Str.{IsUtf8}
+use Rattle.serde_json.specs.Data.{depth}
 use Rattle.serde_json.specs.View.{view}
 use Rattle.serde_json.specs.Written.{has_float, compact_text}
 use Rattle.serde_json.specs.declared.value.Value.{Value}
 use Rattle.serde_json.specs.Read.{read, max_depth}
-use Rattle.gl_base.specs.declared.json.FormsFault.TheVariants.{NotJson}
-use Rattle.gl_receipt.specs.Form.{tree_from, receipt_from}
+use Rattle.gl_receipt.specs.Form.{receipt_from}
 use Rattle.gl_receipt.specs.Tree.{receipt_tree}
 use Rattle.gl_receipt.specs.declared.components.Receipt.{Receipt}
 use Rattle.gl_receipt.specs.Ranges.{IsReceipt}
+use Rattle.gl_json.proofs.TextLemmas.{tree_is}
 use Rattle.gl_receipt.proofs.TreeLemmas.{has_float-tree, depth-tree}
 use Rattle.gl_receipt.proofs.FormLemmas.{receipt_in-tree}
-
-pub tree_is : (text : List ℕ) (tree : Data) → IsUtf8 text → read text ≡ Some tree → tree_from text ≡ Ok tree
-unfolding tree_from
-tree_is text tree utf8 found =
-    let test : is_utf8 text ≡ true = is_utf8-from_IsUtf8 text utf8 in
-    rw (test, found) refl
-
-pub no_tree : (text : List ℕ) → (IsUtf8 text → read text ≡ None) → tree_from text ≡ Err NotJson
-unfolding tree_from
-no_tree text none = elim (cases_Bool (is_utf8 text)) [
-  | inl utf8 ↦ let found = none (IsUtf8-from_is_utf8 text utf8) in rw (utf8, found) refl
-  | inr other ↦ rw other refl
-]
 
 pub reads_back : (text : List ℕ) (r : Receipt) → IsReceipt r → IsUtf8 text → read text ≡ Some (receipt_tree r) → receipt_from text ≡ Ok r
 unfolding receipt_from

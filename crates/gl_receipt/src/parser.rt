@@ -2,16 +2,16 @@
 
 ghost use Rattle.std.specs.Prelude.{◌≡◌, [], ◌∷◌, option_map, codes};
 ghost use Rattle.gl_base.specs.Answers.{Answers};
-ghost use Rattle.gl_receipt.specs.Form.{leaf_components_in, step_in, sibling_in, steps_from, proof_in, signed_in, bytes_in, receipt_in, tree_from, receipt_from, at, path_of};
+ghost use Rattle.gl_json.specs.Form.{at};
+ghost use Rattle.gl_receipt.specs.Form.{leaf_components_in, step_in, sibling_in, steps_from, proof_in, signed_in, bytes_in, receipt_in, receipt_from, path_of};
 ghost use Rattle.serde_json.specs.View.{view, items_view};
 
 use crate::components::{LeafComponents, Receipt, Signed};
-use crate::form::{
-    FormError, array_in, digest_in, lower_digits, object_in, text_in, u32_in, u64_in, value_in,
-};
+use crate::form::{array_in, digest_in, fault_at, fault_in_step, u32_in, u64_in};
 use crate::text::Text;
 use gl_base::{Bytes, FormsFault, OrNoMemory, Sequence};
 use gl_entry::Digest;
+use gl_json::{FormError, lower_digits, only_members_in, read_tree, text_in, value_in};
 use gl_merkle::Step;
 use hex::FromHexError;
 use serde_json::Value;
@@ -24,22 +24,26 @@ fn leaf_components_in(
 ) -> Result<LeafComponents, OrNoMemory<FormsFault>>
     ensures { Answers (λ c. c) result (leaf_components_in (view value.now)) }
 {
-    object_in(
+    only_members_in(
         &["claims_digest", "commit_evidence", "write_set_digest"],
         value,
     )
-    .map_err(|form_error| form_error.at(alloc, &["leaf_components"]))?;
-    let claims_digest = digest_in(value.get("claims_digest")).map_err(|form_error| form_error.at(
+    .map_err(|form_error| fault_at(alloc, &["leaf_components"], form_error))?;
+    let claims_digest = digest_in(value.get("claims_digest")).map_err(|form_error| fault_at(
         alloc,
         &["leaf_components", "claims_digest"],
+        form_error,
     ))?;
-    let commit_evidence = text_in(value.get("commit_evidence")).map_err(|form_error| form_error.at(
+    let commit_evidence = text_in(value.get("commit_evidence")).map_err(|form_error| fault_at(
         alloc,
         &["leaf_components", "commit_evidence"],
+        form_error,
     ))?;
-    let write_set_digest = digest_in(value.get("write_set_digest")).map_err(
-        |form_error| form_error.at(alloc, &["leaf_components", "write_set_digest"]),
-    )?;
+    let write_set_digest = digest_in(value.get("write_set_digest")).map_err(|form_error| fault_at(
+        alloc,
+        &["leaf_components", "write_set_digest"],
+        form_error,
+    ))?;
     Ok(LeafComponents {
         claims_digest,
         commit_evidence: Text::from(String::from_str(alloc, commit_evidence)?),
@@ -57,8 +61,18 @@ fn sibling_in(
 ) -> Result<Digest, OrNoMemory<FormsFault>>
     ensures { Answers (λ s. s) result (sibling_in index side.now (view value.now)) }
 {
-    object_in(&[side], value).map_err(|form_error| form_error.in_step(alloc, index, &[]))?;
-    digest_in(value.get(side)).map_err(|form_error| form_error.in_step(alloc, index, &[side]))
+    only_members_in(&[side], value).map_err(|form_error| fault_in_step(
+        alloc,
+        index,
+        &[],
+        form_error,
+    ))?;
+    digest_in(value.get(side)).map_err(|form_error| fault_in_step(
+        alloc,
+        index,
+        &[side],
+        form_error,
+    ))
 }
 
 #[tactic(auto, unfolding(crate::specs::Form::step_in))]
@@ -87,7 +101,7 @@ fn steps_in(alloc: Global, values: &[Value]) -> Result<Vec<Step>, OrNoMemory<For
 fn proof_in(alloc: Global, value: Option<&Value>) -> Result<Sequence<Step>, OrNoMemory<FormsFault>>
     ensures { Answers (λ s. s) result (proof_in (option_map (λ v. view v.now) value.entry)) }
 {
-    let values = array_in(value).map_err(|form_error| form_error.at(alloc, &["proof"]))?;
+    let values = array_in(value).map_err(|form_error| fault_at(alloc, &["proof"], form_error))?;
     Ok(Sequence::from(steps_in(alloc, values)?))
 }
 
@@ -97,12 +111,12 @@ fn signature_in(alloc: Global, value: Option<&Value>) -> Result<Bytes, OrNoMemor
         (bytes_in (option_map (λ v. view v.now) value.entry))) }
 {
     let digits = text_in(value)
-        .and_then(lower_digits)
-        .map_err(|form_error| form_error.at(alloc, &["signature"]))?;
+        .and_then(|text| lower_digits(text))
+        .map_err(|form_error| fault_at(alloc, &["signature"], form_error))?;
     match hex::decode(alloc, digits) {
         Ok(bytes) => Ok(Bytes::from(bytes)),
         Err(FromHexError::OutOfMemory) => Err(OrNoMemory::NoMemory),
-        Err(_) => Err(FormError::Hex.at(alloc, &["signature"])),
+        Err(_) => Err(fault_at(alloc, &["signature"], FormError::Hex)),
     }
 }
 
@@ -110,21 +124,25 @@ fn signature_in(alloc: Global, value: Option<&Value>) -> Result<Bytes, OrNoMemor
 fn signed_in(alloc: Global, value: &Value) -> Result<Signed, OrNoMemory<FormsFault>>
     ensures { Answers (λ s. s) result (signed_in (view value.now)) }
 {
-    object_in(&["commit", "seqno", "view"], value).map_err(|form_error| form_error.at(
+    only_members_in(&["commit", "seqno", "view"], value).map_err(|form_error| fault_at(
         alloc,
         &["signed"],
+        form_error,
     ))?;
-    let commit = u64_in(value.get("commit")).map_err(|form_error| form_error.at(
+    let commit = u64_in(value.get("commit")).map_err(|form_error| fault_at(
         alloc,
         &["signed", "commit"],
+        form_error,
     ))?;
-    let seqno = u64_in(value.get("seqno")).map_err(|form_error| form_error.at(
+    let seqno = u64_in(value.get("seqno")).map_err(|form_error| fault_at(
         alloc,
         &["signed", "seqno"],
+        form_error,
     ))?;
-    let view = u32_in(value.get("view")).map_err(|form_error| form_error.at(
+    let view = u32_in(value.get("view")).map_err(|form_error| fault_at(
         alloc,
         &["signed", "view"],
+        form_error,
     ))?;
     Ok(Signed {
         commit,
@@ -137,19 +155,21 @@ fn signed_in(alloc: Global, value: &Value) -> Result<Signed, OrNoMemory<FormsFau
 fn receipt_in(alloc: Global, value: &Value) -> Result<Receipt, OrNoMemory<FormsFault>>
     ensures { Answers (λ r. r) result (receipt_in (view value.now)) }
 {
-    object_in(&["leaf_components", "proof", "signature", "signed"], value).map_err(
-        |form_error| form_error.at(alloc, &[]),
+    only_members_in(&["leaf_components", "proof", "signature", "signed"], value).map_err(
+        |form_error| fault_at(alloc, &[], form_error),
     )?;
-    let components = value_in(value.get("leaf_components")).map_err(|form_error| form_error.at(
+    let components = value_in(value.get("leaf_components")).map_err(|form_error| fault_at(
         alloc,
         &["leaf_components"],
+        form_error,
     ))?;
     let leaf_components = leaf_components_in(alloc, components)?;
     let proof = proof_in(alloc, value.get("proof"))?;
     let signature = signature_in(alloc, value.get("signature"))?;
-    let statement = value_in(value.get("signed")).map_err(|form_error| form_error.at(
+    let statement = value_in(value.get("signed")).map_err(|form_error| fault_at(
         alloc,
         &["signed"],
+        form_error,
     ))?;
     let signed = signed_in(alloc, statement)?;
     Ok(Receipt {
@@ -158,22 +178,6 @@ fn receipt_in(alloc: Global, value: &Value) -> Result<Receipt, OrNoMemory<FormsF
         signature,
         signed,
     })
-}
-
-/// The tree of a JSON text.
-fn read_tree(alloc: Global, text: &[u8]) -> Result<Value, OrNoMemory<FormsFault>>
-    ensures { Answers view result (tree_from text.now) }
-{
-    match Value::from_slice(alloc, text) {
-        Ok(tree) => Ok(tree),
-        Err(e) => {
-            if e.is_memory() {
-                Err(OrNoMemory::NoMemory)
-            } else {
-                Err(OrNoMemory::Fault(FormsFault::NotJson))
-            }
-        }
-    }
 }
 
 /// The receipt that a JSON text is, all of it, or the first value of it that has another form: an

@@ -1,6 +1,6 @@
 use Rattle.std.proofs.Common.{◌≡◌, true, false, nat_le, length, sym, ◌∙◌, arith}
 use Rattle.std.proofs.lemmas.Bool.Decides.{nat_tests}
-use Rattle.gl_forms.proofs.ObjectLemmas.{has_so_many-view}
+use Rattle.gl_forms.proofs.ListLemmas.{has_so_many-view}
 use Rattle.gl_forms.proofs.value.has_so_many.Goals as goal
 
 pub returns-then-low-elements : goal.returns-then-low-elements

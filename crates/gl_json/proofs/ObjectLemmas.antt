@@ -1,30 +1,21 @@
--- Tests of lists and objects.
-use Rattle.std.proofs.Common.{◌≡◌, ℕ, suc, Bool, cond, ◌&&◌, List, [], ◌∷◌, length, nat_le, map, Result, Ok, Err, String, Global, Bor, refl, ap}
+-- Tests of objects.
+use Rattle.std.proofs.Common.{◌≡◌, ℕ, suc, Bool, cond, ◌&&◌, List, [], ◌∷◌, length, map, Result, Ok, Err, String, Global, Bor, refl, ap}
 use Rattle.std.specs.List.{list_all}
 use Rattle.std.specs.Option.{is_some}
 use Rattle.std.proofs.lemmas.List.{length-map}
 use Rattle.std.proofs.lemmas.List.Folds.{list_all-map}
 use Rattle.serde_json.specs.Data.{Data}
-use Rattle.serde_json.specs.Events.{items_len, members_len}
+use Rattle.serde_json.specs.Events.{members_len}
 use Rattle.serde_json.specs.Find.{get, as_object}
-use Rattle.serde_json.specs.View.{items_view, members_view}
+use Rattle.serde_json.specs.View.{members_view}
 use Rattle.serde_json.specs.declared.value.Value.{Value}
-use Rattle.gl_forms.specs.Form.{has_count, has_so_many, only_members_in}
-use Rattle.gl_forms.specs.declared.form_error.FormError.{FormError}
-use Rattle.gl_forms.specs.declared.form_error.FormError.TheVariants.{Shape}
+use Rattle.gl_json.specs.Form.{has_count, only_members_in}
+use Rattle.gl_json.specs.declared.form_error.FormError.{FormError}
+use Rattle.gl_json.specs.declared.form_error.FormError.TheVariants.{Shape}
 
 pub members_len-view : (es : List (String Global × Value)) → members_len (members_view es) ≡ length es
 members_len-view [] = refl
 members_len-view (e ∷ es) = ap suc (members_len-view es)
-
-pub items_len-view : (vs : List Value) → items_len (items_view vs) ≡ length vs
-items_len-view [] = refl
-items_len-view (v ∷ vs) = ap suc (items_len-view vs)
-
--- the test of a list's length, by its first part
-pub has_so_many-view : (low high : ℕ) (vs : List Value) (least : Bool) → nat_le low (length vs) ≡ least
-    → has_so_many low high (items_view vs) ≡ (least && nat_le (length vs) high)
-has_so_many-view low high vs least e = rw (items_len-view vs, e) refl
 
 -- the test of an object's members, by its parts
 pub only_members_in-parts : (names : List (Bor (List ℕ))) (value : Data) (count each : Bool)

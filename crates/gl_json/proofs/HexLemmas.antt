@@ -4,7 +4,7 @@ use Rattle.std.specs.List.{list_all, AllPass}
 use Rattle.std.proofs.lemmas.List.Elements.{All-cons}
 use Rattle.std.proofs.lemmas.List.Sums.{AllPass-from_list_all, list_all-from_AllPass}
 use Rattle.hex.specs.Hex.{encode_with, lower_digits, encode_lower, IsBytes}
-use Rattle.gl_receipt.specs.Form.{is_lower_digit}
+use Rattle.gl_json.specs.Form.{is_lower_digit}
 
 -- each of the sixteen digits is one
 digit_is_lower : (n : ℕ) → n < 16 → is_lower_digit (get_or lower_digits n 0) ≡ true

@@ -1,7 +1,7 @@
 use Rattle.std.proofs.Common.{◌≡◌, true, false}
 use Rattle.serde_json.specs.View.{view}
-use Rattle.gl_forms.proofs.TextLemmas.{tree_is, no_tree}
-use Rattle.gl_forms.proofs.tree.read_tree.Goals as goal
+use Rattle.gl_json.proofs.TextLemmas.{tree_is, no_tree}
+use Rattle.gl_json.proofs.tree.read_tree.Goals as goal
 
 pub returns-in-Ok : goal.returns-in-Ok
 returns-in-Ok c = record { exact = tree_is c.args.text.now (view c.in-Ok.tree) c.in-Ok.ensures.ok.0 c.in-Ok.ensures.ok.1 }

@@ -1,8 +1,8 @@
 use Rattle.std.proofs.Common.{true, false, refl, sym}
 use Rattle.serde_json.specs.View.{view}
-use Rattle.gl_forms.proofs.ObjectLemmas.{only_members_in-parts}
-use Rattle.gl_forms.proofs.value.only_members_in.Goals as goal
-use Rattle.gl_forms.proofs.value.only_members_in.Goals.{else-has_count-via-then-has_count+else-has_each, else-has_count-via-else-has_count}
+use Rattle.gl_json.proofs.ObjectLemmas.{only_members_in-parts}
+use Rattle.gl_json.proofs.value.only_members_in.Goals as goal
+use Rattle.gl_json.proofs.value.only_members_in.Goals.{else-has_count-via-then-has_count+else-has_each, else-has_count-via-else-has_count}
 
 pub returns-then-has_each : goal.returns-then-has_each
 returns-then-has_each c =

@@ -1,7 +1,7 @@
 use Rattle.std.proofs.Common.{ℕ, ◌==◌, sym, ap, ◌∙◌}
-use Rattle.gl_forms.specs.Form.{has_count}
-use Rattle.gl_forms.proofs.ObjectLemmas.{members_len-view}
-use Rattle.gl_forms.proofs.value.has_count.Goals as goal
+use Rattle.gl_json.specs.Form.{has_count}
+use Rattle.gl_json.proofs.ObjectLemmas.{members_len-view}
+use Rattle.gl_json.proofs.value.has_count.Goals as goal
 
 pub returns-in-Some : goal.returns-in-Some
 returns-in-Some c =

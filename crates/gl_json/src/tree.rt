@@ -2,7 +2,7 @@
 
 ghost use Rattle.std.specs.Prelude.{◌≡◌};
 ghost use Rattle.gl_base.specs.Answers.{Answers};
-ghost use Rattle.gl_forms.specs.Text.{tree_from};
+ghost use Rattle.gl_json.specs.Text.{tree_from};
 ghost use Rattle.serde_json.specs.View.{view};
 
 use gl_base::{FormsFault, OrNoMemory};

@@ -114,7 +114,7 @@ module _ (layers : Layers) (ledger : List Entry) (r : Recovery) (sound : IsSound
 
   -- an entry may be made after it
   may_recover : MayMake ledger (recovery_view ledger)
-  may_recover = record { last = last.0; is_last = last.1; after = opened; up = omega (arith, next) }
+  may_recover = record { last = last.0; is_last = last.1; opened = opened; up = omega (arith, next) }
 
   -- ---- the recovery
 

@@ -43,7 +43,7 @@ module _ (layers : Layers) where
       record {
         last = last.0;
         is_last = last.1;
-        after = ap is_unopened (sym last.1) ∙ opened;
+        opened = ap is_unopened (sym last.1) ∙ opened;
         up = up (length ledger - 1) last.0 last.1;
       }
 

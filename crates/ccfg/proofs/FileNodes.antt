@@ -176,7 +176,7 @@ pub serves_on : (event : NodeEvent) (old new : SeenFileNode) → IsFileNode old 
 serves_on event old new is some kept same = record {
   serves = same ∙ is.serves;
   state = kept_after is.state (rule_of event some.rules some.me some.node).node;
-  file = record { opens = kept some.rules some.me some.node some.node_status is.state is.file.opens; kind = is.file.kind };
+  file = record { opens = kept some.rules some.me some.node some.standing is.state is.file.opens; kind = is.file.kind };
 }
 
 -- and one that refuses

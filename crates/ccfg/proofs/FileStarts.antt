@@ -140,7 +140,7 @@ module _ (s : Settings) (h : IsGroup s) (number : ℕ) (low : 1 ≤ number) (hig
   pub serving_at_start : (journal : Journal SureDisk) (n : Node Entry) → StandsFor Stands core (book_of s) (id_of s number) n → IsMemoryFile journal (state_at_start s number core) →
       IsServing Stands ledger_in goes_on_ledger true (λ (disk : SureDisk). disk.bytes.items) disk_past core journal
   serving_at_start journal n stood file = record {
-    some = record { rules = book_of s; me = id_of s number; node = n; node_status = stood };
+    some = record { rules = book_of s; me = id_of s number; node = n; standing = stood };
     whole = holds_whole core.book;
     file = λ honest. record {
       kept = file.kept honest;

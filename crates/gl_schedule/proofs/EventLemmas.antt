@@ -33,7 +33,7 @@ pub prints_answer : (t : Output) (m : Playing) (text before after : List ℕ) �
 prints_answer t m text before after is_in written = record {
   settings = refl;
   text = text;
-  printed = refl;
+  reported = refl;
   written = written;
   is_in = record { world = is_in.world; events = is_in.events; requests = is_in.requests; proposals = is_in.proposals; signed = is_in.signed };
 }
@@ -115,7 +115,7 @@ event_printed : (t : Output) (old : Playing) (event : Event) (before after : Lis
 event_printed t old event before after is_in written = record {
   settings = refl;
   text = outcome_text s (answer_to old.world event) ++ sent_text (world_now old.world) (world_now (with_event old.world event));
-  printed = ap (λ (w : ServiceWorld). next_text t (outcome_text s (happens (book_of s) w e).outcome ++ sent_text w (happens (book_of s) w e).world)) is_in.world
+  reported = ap (λ (w : ServiceWorld). next_text t (outcome_text s (happens (book_of s) w e).outcome ++ sent_text w (happens (book_of s) w e).world)) is_in.world
       ∙ ap (λ (w : ServiceWorld). next_text t (outcome_text s (answer_to old.world event) ++ sent_text (world_now old.world) w)) (sym (after_one old.world event));
   written = written;
   is_in = record {

@@ -103,7 +103,7 @@ sent_printed : (t : Output) (old : Playing) (number node : ℕ) (g : GovernanceR
 sent_printed t old number node g signer before after is_in next written = record {
   settings = refl;
   text = (outcome_text s o ++ governed_text (proposals_after old.proposals g o) o) ++ sent_text (world_now old.world) (world_now (with_event old.world (events.Govern node g)));
-  printed = ap₂ printed_text is_in.world is_in.proposals
+  reported = ap₂ printed_text is_in.world is_in.proposals
       ∙ ap (λ (w : ServiceWorld). next_text t ((outcome_text s o ++ governed_text (proposals_after old.proposals g o) o) ++ sent_text (world_now old.world) w)) (sym (after_one old.world (events.Govern node g)));
   written = written;
   is_in = record {

@@ -195,10 +195,10 @@ module _ {D S : Type 0} (stands : S → ServiceBook → Holding Entry → Type 0
   serve_keeps ledger reported settings first last before after ahead left result s true_disk some file only d opens =
       let life = serve_lives stands goes_on honest bytes past faults settings reported _ _ _ _ result s.went in
       let n = some.node in
-      let same : d.reserved ≡ n.reserved = held_reserved d file.0 (sym opens ∙ file.1) ∙ file.2.reserved ∙ ap (λ (m : Node Entry). m.reserved) some.node_status.same in
-      let kept = life_is_kept stands goes_on honest bytes past faults true_disk some.rules some.me first last life.0 life.1 n some.node_status d opens in
+      let same : d.reserved ≡ n.reserved = held_reserved d file.0 (sym opens ∙ file.1) ∙ file.2.reserved ∙ ap (λ (m : Node Entry). m.reserved) some.standing.same in
+      let kept = life_is_kept stands goes_on honest bytes past faults true_disk some.rules some.me first last life.0 life.1 n some.standing d opens in
       so_too (λ (image : List ℕ). (state : Durable) × MayKeep some.rules some.me n d life.0 state × (durable goes_on image ≡ Ok state)) (KeepsLeaves goes_on d) (past first.disk) (past last.disk)
-      (λ image may. let k = leaves_kept some.rules some.me life.0 first last n d may.0 life.1 some.node_status same may.1 in (may.0, may.2, k.0, k.1))
+      (λ image may. let k = leaves_kept some.rules some.me life.0 first last n d may.0 life.1 some.standing same may.1 in (may.0, may.2, k.0, k.1))
       (kept.any_moment only)
     where
       held_reserved : (d e : Durable) → ◌≡◌ {A = Result Durable JournalFault} (Ok d) (Ok e) → d.reserved ≡ e.reserved

@@ -27,16 +27,16 @@ module _ {D S : Type 0} (stands : S → ServiceBook → Holding Entry → Type 0
     (event : NodeEvent S) (old new : NodeSeen D S) (held : NodeCore S) (is : held ≡ old.core) (limits : At stands held.book (λ b h. KeepsLimits b h.log)) (some : StandsForSome stands old.core) (done : NodeDone S) (steps : Steps stands (rule_of event) old.core done new.core) where
   keeps : KeepsLimits some.rules some.node.log
   keeps =
-      subst (λ (c : NodeCore S). At stands c.book (λ b h. KeepsLimits b h.log)) is limits some.rules (held_by some.me some.node) some.node_status.ledger
+      subst (λ (c : NodeCore S). At stands c.book (λ b h. KeepsLimits b h.log)) is limits some.rules (held_by some.me some.node) some.standing.ledger
 
   pub sent_fits : All (λ (m : Message). IsTrue (body_fits m.body)) done.sent
   sent_fits =
-      let step = steps some.rules some.me some.node some.node_status in
+      let step = steps some.rules some.me some.node some.standing in
       fit_sent done.sent (rule_of event some.rules some.me some.node).sent step.sent (rule_fits some.rules keeps.frames event some.me some.node keeps.entries)
 
   pub is_accepted : is_request event ≡ true → IsAccepted done.outcome
   is_accepted asked =
-      let step = steps some.rules some.me some.node some.node_status in
+      let step = steps some.rules some.me some.node some.standing in
       accepted_from done.outcome (rule_of event some.rules some.me some.node).outcome step.outcome (rule_settles some.rules some.node keeps event some.me asked)
 
 -- what is told of an event is what it comes to

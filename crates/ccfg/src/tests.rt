@@ -1,23 +1,31 @@
-//! Runs of the whole program, over objects in memory.
+//! Runs of the whole program, over objects in memory. They are data: each run is a row of a table
+//! (`run.rt`), and one test plays the tables of a subject. The README of this crate tells how a row
+//! is added.
 
-use crate::program::top;
+use crate::tests::table::Table;
 use gl_load::LoadObserver;
-use gl_outside::{Disk, OpenGate, Sink, Source, SureDisk, SureLink, SureSink, SureSource};
 use gl_serve::{NodeStatus, Observer};
-use std::alloc::{AllocError, Global};
+use std::test::Fail;
 
 mod audits;
 mod dealings;
+mod expected;
+mod founding;
 mod keys;
 mod loads;
 mod members;
 mod nodes;
+mod part;
+mod play;
 mod receipts;
 mod recoveries;
 mod roles;
+mod run;
 mod schedules;
 mod serve;
 mod signatures;
+mod table;
+mod turns;
 mod words;
 
 /// Nobody looks on.
@@ -32,69 +40,113 @@ impl LoadObserver for Unwatched {
     fn taken(&mut self, _requests: u32) {}
 }
 
-/// A first line with these numbers and this state and a seed of zeros, with its newline.
-fn world(alloc: Global, settings: &[u8]) -> Result<Vec<u8>, AllocError> {
-    let mut text = Vec::from_slice(alloc, b"world ")?;
-    text.extend_from_slice(settings)?;
-    text.push(b' ')?;
-    text.extend_from_slice(&[b'0'; 64])?;
-    text.push(b'\n')?;
-    Ok(text)
+#[test]
+fn words_that_ask_for_nothing(rt: HostRuntime) -> Result<(), Fail> {
+    let mut table = Table::new(rt.alloc());
+    words::play(&rt, &mut table)?;
+    Ok(())
 }
 
-/// The first line of a service of one open node and one member.
-fn one_open(alloc: Global) -> Result<Vec<u8>, AllocError> {
-    world(alloc, b"1 0 1 open")
+#[test]
+fn schedules_of_one_node(rt: HostRuntime) -> Result<(), Fail> {
+    let mut table = Table::new(rt.alloc());
+    schedules::play(&rt, &mut table)?;
+    Ok(())
 }
 
-/// The words of a command line.
-fn to_words(alloc: Global, words: &[&str]) -> Result<Vec<String>, AllocError> {
-    let mut held = Vec::new(alloc);
-    for word in words {
-        held.push(String::from_str(alloc, word)?)?;
-    }
-    Ok(held)
+#[test]
+fn what_is_no_schedule(rt: HostRuntime) -> Result<(), Fail> {
+    let mut table = Table::new(rt.alloc());
+    schedules::play_faults(&rt, &mut table)?;
+    Ok(())
 }
 
-/// The status of a run over a disk, which it gives back, and a link on which nothing comes.
-fn status_on<S: Source, K: Sink, D: Disk + Drop + Send>(
-    alloc: Global,
-    called: &[String],
-    source: &mut S,
-    sink: &mut K,
-    disk: D,
-) -> (u8, D) {
-    let mut link = SureLink::new(alloc, &[]);
-    top(
-        alloc, called, source, sink, disk, &mut link, Unwatched, &OpenGate,
-    )
+#[test]
+fn schedules_of_many_nodes(rt: HostRuntime) -> Result<(), Fail> {
+    let mut table = Table::new(rt.alloc());
+    nodes::play(&rt, &mut table)?;
+    Ok(())
 }
 
-/// The status of a run over an empty disk.
-fn status_of<S: Source, K: Sink>(
-    alloc: Global,
-    called: &[String],
-    source: &mut S,
-    sink: &mut K,
-) -> u8 {
-    let (status, _disk) = status_on(alloc, called, source, sink, SureDisk::new(alloc));
-    status
+#[test]
+fn schedules_of_each_role(rt: HostRuntime) -> Result<(), Fail> {
+    let mut table = Table::new(rt.alloc());
+    roles::play(&rt, &mut table)?;
+    Ok(())
 }
 
-/// The status of a run over a source and a sink that never fail, and what was written.
-fn run(alloc: Global, called: &[&str], text: &[u8]) -> Result<(u8, Vec<u8>), AllocError> {
-    let called = to_words(alloc, called)?;
-    let mut source = SureSource::new(text, 50);
-    let mut sink = SureSink::new(alloc, 7);
-    let status = status_of(alloc, &called, &mut source, &mut sink);
-    Ok((status, sink.held))
+#[test]
+fn schedules_of_members(rt: HostRuntime) -> Result<(), Fail> {
+    let mut table = Table::new(rt.alloc());
+    members::play(&rt, &mut table)?;
+    Ok(())
 }
 
-/// These parts, one after the other.
-fn join(alloc: Global, parts: &[&[u8]]) -> Result<Vec<u8>, AllocError> {
-    let mut text = Vec::new(alloc);
-    for part in parts {
-        text.extend_from_slice(part)?;
-    }
-    Ok(text)
+#[test]
+fn receipts_that_are_verified(rt: HostRuntime) -> Result<(), Fail> {
+    let mut table = Table::new(rt.alloc());
+    receipts::play(&rt, &mut table)?;
+    Ok(())
+}
+
+#[test]
+fn ledgers_that_are_audited(rt: HostRuntime) -> Result<(), Fail> {
+    let mut table = Table::new(rt.alloc());
+    audits::play(&rt, &mut table)?;
+    Ok(())
+}
+
+#[test]
+fn dealings_and_loads(rt: HostRuntime) -> Result<(), Fail> {
+    let mut table = Table::new(rt.alloc());
+    dealings::play(&rt, &mut table)?;
+    loads::play(&rt, &mut table)?;
+    Ok(())
+}
+
+#[test]
+fn keys_that_begin(rt: HostRuntime) -> Result<(), Fail> {
+    let mut table = Table::new(rt.alloc());
+    keys::play(&rt, &mut table)?;
+    Ok(())
+}
+
+#[test]
+fn what_keys_of_files_sign(rt: HostRuntime) -> Result<(), Fail> {
+    let mut table = Table::new(rt.alloc());
+    founding::play(&rt, &mut table)?;
+    signatures::play(&rt, &mut table)?;
+    Ok(())
+}
+
+#[test]
+fn serves_of_one_node(rt: HostRuntime) -> Result<(), Fail> {
+    let mut table = Table::new(rt.alloc());
+    founding::play(&rt, &mut table)?;
+    serve::play(&rt, &mut table)?;
+    Ok(())
+}
+
+#[test]
+fn serves_of_a_follower(rt: HostRuntime) -> Result<(), Fail> {
+    let mut table = Table::new(rt.alloc());
+    founding::play(&rt, &mut table)?;
+    serve::play_followed(&rt, &mut table)?;
+    Ok(())
+}
+
+#[test]
+fn recoveries_of_a_ledger(rt: HostRuntime) -> Result<(), Fail> {
+    let mut table = Table::new(rt.alloc());
+    founding::play(&rt, &mut table)?;
+    recoveries::play(&rt, &mut table)?;
+    Ok(())
+}
+
+#[test]
+fn shares_that_open_a_recovered_service(rt: HostRuntime) -> Result<(), Fail> {
+    let mut table = Table::new(rt.alloc());
+    founding::play(&rt, &mut table)?;
+    recoveries::play_with_members(&rt, &mut table)?;
+    Ok(())
 }

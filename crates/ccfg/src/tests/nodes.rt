@@ -1,10 +1,15 @@
-//! Schedules of many nodes, each line with what is told of it, worked out by hand.
+//! Schedules of many nodes, each line with what is printed for it, worked out by hand.
 
-use crate::tests::members::{Rows, plays};
-use std::test::Fail;
+use crate::tests::part::Lines;
+use crate::tests::part::Part::{Answered, Asked, Text, World};
+use crate::tests::run::{Output, Run};
+use crate::tests::schedules::REPLAY;
+use crate::tests::table::Table;
+use std::alloc::AllocError;
+use std::process::Abort;
 
 /// A put that nobody commits is rolled back: node 2 wins the next view without it.
-const ROLLBACK: [(&str, &str); 17] = [
+const ROLLBACK: Lines<'static> = &[
     ("submit 1 put public:t 61 01", "accepted 2.3 done"),
     ("timeout 2", "candidate sent 1 2"),
     ("deliver 2", "ok sent 3"),
@@ -25,7 +30,7 @@ const ROLLBACK: [(&str, &str); 17] = [
 ];
 
 /// Messages that come again, after that.
-const REPEATED: [(&str, &str); 5] = [
+const REPEATED: Lines<'static> = &[
     ("deliver 3", "idle"),
     ("deliver 4", "ok sent 8"),
     ("deliver 4", "ok sent 9"),
@@ -34,17 +39,8 @@ const REPEATED: [(&str, &str); 5] = [
     ("submit 1 size public:t", "refused 110 3 2"),
 ];
 
-#[test]
-fn rolls_back_what_nobody_committed(rt: HostRuntime) -> Result<(), Fail> {
-    plays(&rt, rt.alloc(), b"3 0 1 open", &ROLLBACK)?;
-    let mut rows = Vec::from_slice(rt.alloc(), &ROLLBACK)?;
-    rows.extend_from_slice(&REPEATED)?;
-    plays(&rt, rt.alloc(), b"3 0 1 open", &rows)?;
-    Ok(())
-}
-
 /// Node 2 grants its vote once more when the request comes again.
-const GRANTED_AGAIN: Rows<'static> = &[
+const GRANTED_AGAIN: Lines<'static> = &[
     ("submit 2 size public:t", "refused 110 2 -"),
     ("timeout 2", "candidate sent 1 2"),
     ("deliver 2", "ok sent 3"),
@@ -53,7 +49,7 @@ const GRANTED_AGAIN: Rows<'static> = &[
 ];
 
 /// Views and votes last through restarts: node 3 doesn't vote for a second node in view 3.
-const RESTARTS: Rows<'static> = &[
+const RESTARTS: Lines<'static> = &[
     ("timeout 2", "candidate sent 1 2"),
     ("deliver 2", "ok sent 3"),
     ("restart 3", "ok"),
@@ -64,7 +60,7 @@ const RESTARTS: Rows<'static> = &[
 ];
 
 /// A leader that steps down has another node stand, and follows.
-const STEPS_DOWN: Rows<'static> = &[
+const STEPS_DOWN: Lines<'static> = &[
     ("stepdown 1 2", "ok sent 1"),
     ("deliver 1", "candidate sent 2 3"),
     ("submit 1 size public:t", "refused 110 2 -"),
@@ -73,7 +69,7 @@ const STEPS_DOWN: Rows<'static> = &[
 ];
 
 /// Numbers that name nothing, nodes that are no peers, and a node in no configuration.
-const NO_PEERS: Rows<'static> = &[
+const NO_PEERS: Lines<'static> = &[
     ("replicate 1 1", "refused 126"),
     ("stepdown 1 1", "refused 126"),
     ("replicate 1 4", "refused 0"),
@@ -82,18 +78,12 @@ const NO_PEERS: Rows<'static> = &[
     ("mark 1 2", "refused 49 2"),
 ];
 
-#[test]
-fn plays_elections(rt: HostRuntime) -> Result<(), Fail> {
-    for rows in [GRANTED_AGAIN, RESTARTS, STEPS_DOWN, NO_PEERS] {
-        plays(&rt, rt.alloc(), b"3 0 1 open", rows)?;
-    }
-    plays(&rt, rt.alloc(), b"1 1 1 open", &[("timeout 2", "idle")])?;
-    Ok(())
-}
+/// A node in no configuration.
+const JOINER: Lines<'static> = &[("timeout 2", "idle")];
 
 /// A signature of an earlier view is committed by one of the leader's own view alone, though a
 /// majority holds it.
-const EARLIER_VIEW: Rows<'static> = &[
+const EARLIER_VIEW: Lines<'static> = &[
     ("submit 1 put public:t 61 01", "accepted 2.3 done"),
     ("reserve 1", "ok"),
     ("sign 1", "signed 2.4"),
@@ -138,14 +128,8 @@ const EARLIER_VIEW: Rows<'static> = &[
     ("advance 1", "commit 4.5"),
 ];
 
-#[test]
-fn commits_its_own_view_alone(rt: HostRuntime) -> Result<(), Fail> {
-    plays(&rt, rt.alloc(), b"5 0 1 open", EARLIER_VIEW)?;
-    Ok(())
-}
-
 /// Two nodes leave and two come: what is signed after that waits for a majority of the new ones.
-const RECONFIGURED: Rows<'static> = &[
+const RECONFIGURED: Lines<'static> = &[
     ("ack 1 1", "accepted 2.3"),
     ("join 1 4", "accepted 2.4"),
     ("join 1 5", "accepted 2.5"),
@@ -195,7 +179,7 @@ const RECONFIGURED: Rows<'static> = &[
 ];
 
 /// A node is retired, stage by stage, and marked once its removal is committed.
-const RETIRED: Rows<'static> = &[
+const RETIRED: Lines<'static> = &[
     ("ack 1 1", "accepted 2.3"),
     (
         r##"propose 1 1 {"actions":[{"args":{"node":"#1"},"name":"remove_node"}]}"##,
@@ -235,9 +219,112 @@ const RETIRED: Rows<'static> = &[
     ("deliver 10", "leader"),
 ];
 
-#[test]
-fn changes_its_nodes(rt: HostRuntime) -> Result<(), Fail> {
-    plays(&rt, rt.alloc(), b"3 2 1 open", RECONFIGURED)?;
-    plays(&rt, rt.alloc(), b"3 0 1 open", RETIRED)?;
-    Ok(())
+const ROLLBACKS: &[Run<'static>] = &[
+    Run {
+        name: "a rollback",
+        input: &[World("3 0 1 open"), Asked(ROLLBACK)],
+        output: Output::Is(&[Text("1 ok\n"), Answered(2, ROLLBACK)]),
+        ..REPLAY
+    },
+    Run {
+        name: "a rollback, and messages again",
+        input: &[World("3 0 1 open"), Asked(ROLLBACK), Asked(REPEATED)],
+        output: Output::Is(&[
+            Text("1 ok\n"),
+            Answered(2, ROLLBACK),
+            Answered(19, REPEATED),
+        ]),
+        ..REPLAY
+    },
+];
+
+const ELECTIONS: &[Run<'static>] = &[
+    Run {
+        name: "a vote that is granted again",
+        input: &[World("3 0 1 open"), Asked(GRANTED_AGAIN)],
+        output: Output::Is(&[Text("1 ok\n"), Answered(2, GRANTED_AGAIN)]),
+        ..REPLAY
+    },
+    Run {
+        name: "votes last through restarts",
+        input: &[World("3 0 1 open"), Asked(RESTARTS)],
+        output: Output::Is(&[Text("1 ok\n"), Answered(2, RESTARTS)]),
+        ..REPLAY
+    },
+    Run {
+        name: "a leader that steps down",
+        input: &[World("3 0 1 open"), Asked(STEPS_DOWN)],
+        output: Output::Is(&[Text("1 ok\n"), Answered(2, STEPS_DOWN)]),
+        ..REPLAY
+    },
+];
+
+const OUTSIDERS: &[Run<'static>] = &[
+    Run {
+        name: "nodes that are no peers",
+        input: &[World("3 0 1 open"), Asked(NO_PEERS)],
+        output: Output::Is(&[Text("1 ok\n"), Answered(2, NO_PEERS)]),
+        ..REPLAY
+    },
+    Run {
+        name: "a joiner that times out",
+        input: &[World("1 1 1 open"), Asked(JOINER)],
+        output: Output::Is(&[Text("1 ok\n"), Answered(2, JOINER)]),
+        ..REPLAY
+    },
+];
+
+const EARLIER_VIEWS: &[Run<'static>] = &[Run {
+    name: "a signature of an earlier view",
+    input: &[World("5 0 1 open"), Asked(EARLIER_VIEW)],
+    output: Output::Is(&[Text("1 ok\n"), Answered(2, EARLIER_VIEW)]),
+    ..REPLAY
+}];
+
+const RECONFIGURATIONS: &[Run<'static>] = &[Run {
+    name: "another set of nodes",
+    input: &[World("3 2 1 open"), Asked(RECONFIGURED)],
+    output: Output::Is(&[Text("1 ok\n"), Answered(2, RECONFIGURED)]),
+    ..REPLAY
+}];
+
+const RETIREMENTS: &[Run<'static>] = &[Run {
+    name: "a node that is retired",
+    input: &[World("3 0 1 open"), Asked(RETIRED)],
+    output: Output::Is(&[Text("1 ok\n"), Answered(2, RETIRED)]),
+    ..REPLAY
+}];
+
+fn play_rollbacks(rt: &impl Abort, table: &mut Table) -> Result<(), AllocError> {
+    table.play_all(rt, ROLLBACKS)
+}
+
+fn play_elections(rt: &impl Abort, table: &mut Table) -> Result<(), AllocError> {
+    table.play_all(rt, ELECTIONS)
+}
+
+fn play_outsiders(rt: &impl Abort, table: &mut Table) -> Result<(), AllocError> {
+    table.play_all(rt, OUTSIDERS)
+}
+
+fn play_earlier_views(rt: &impl Abort, table: &mut Table) -> Result<(), AllocError> {
+    table.play_all(rt, EARLIER_VIEWS)
+}
+
+fn play_reconfigurations(rt: &impl Abort, table: &mut Table) -> Result<(), AllocError> {
+    table.play_all(rt, RECONFIGURATIONS)
+}
+
+fn play_retirements(rt: &impl Abort, table: &mut Table) -> Result<(), AllocError> {
+    table.play_all(rt, RETIREMENTS)
+}
+
+/// Plays schedules of many nodes.
+pub fn play(rt: &impl Abort, table: &mut Table) -> Result<(), AllocError> {
+    play_rollbacks(rt, table)?;
+    play_elections(rt, table)?;
+    play_outsiders(rt, table)?;
+    play_earlier_views(rt, table)?;
+    play_reconfigurations(rt, table)?;
+    play_retirements(rt, table)
 }

@@ -1,13 +1,16 @@
 //! Receipts that are verified. The expected output for a changed one is what
 //! `examples/receipt/verify.py` prints for it.
 
-use crate::tests::{join, run, status_of, to_words};
-use gl_outside::{MemSink, MemSource, SureSink, SureSource};
-use std::alloc::{AllocError, Global};
-use std::test::Fail;
+use crate::tests::part::Of;
+use crate::tests::part::Of::Input;
+use crate::tests::part::Part::{After, All, Before, Text, Times};
+use crate::tests::run::{InTurn, Inputs, Output, RUN, Run};
+use crate::tests::table::Table;
+use std::alloc::AllocError;
+use std::process::Abort;
 
 /// The key of a service, of two levels.
-pub(crate) const IDENTITY: &str = "\
+pub const IDENTITY: &str = "\
     000000020000000500000004c00d2e39cbe697efbbf49e528e1da22e3c8d981478775288251eae18295c29a50a6\
     c0425d60a46a45eccedd059ce1460";
 
@@ -84,152 +87,167 @@ const RECEIPT: &str = "\
     04ab39254de54baff8f880d9dc220d704facbbe156971398a52f84fb35210a68ae0d0cfaf6ac876bda0945f1aa0\
     ee8e9d3ff0ebf3c6345211aeda2ccb0\",\"signed\":{\"commit\":2,\"seqno\":6,\"view\":2}}";
 
-/// The words that verify under this key.
-fn verify_under(alloc: Global, identity: &str) -> Result<Vec<String>, AllocError> {
-    to_words(alloc, &["verify", "--identity", identity])
+/// The receipt, as the first run has it.
+const FIRST: Of = Input("a receipt");
+
+const VERIFY: Run<'static> = Run {
+    name: "a receipt that is changed",
+    words: &["verify", "--identity", IDENTITY],
+    input: &[All(FIRST)],
+    ..RUN
+};
+
+/// A receipt, calls that fail, and another key.
+const RECEIPTS: &[Run<'static>] = &[
+    Run {
+        name: "a receipt",
+        input: &[Text(RECEIPT)],
+        output: Output::Is(&[Text("valid 2.3\n")]),
+        ..VERIFY
+    },
+    Run {
+        name: "each read of a receipt fails",
+        piece: 3000,
+        output: Output::Is(&[Text("valid 2.3\n")]),
+        in_turn: &[InTurn::Reads],
+        ..VERIFY
+    },
+    Run {
+        name: "the first write fails",
+        sink_piece: 5,
+        writes: &[1],
+        status: 4,
+        output: Output::Is(&[]),
+        ..VERIFY
+    },
+    Run {
+        name: "the second write fails",
+        sink_piece: 5,
+        writes: &[2],
+        status: 4,
+        output: Output::Is(&[Text("valid")]),
+        ..VERIFY
+    },
+    Run {
+        name: "under another key",
+        words: &["verify", "--identity", OTHER_IDENTITY],
+        status: 1,
+        output: Output::Is(&[Text("fault Evidence\n")]),
+        ..VERIFY
+    },
+];
+
+/// What is no receipt.
+const NO_RECEIPTS: &[Run<'static>] = &[
+    Run {
+        name: "null",
+        input: &[Text("null")],
+        status: 9,
+        output: Output::Is(&[Text("fault Shape .\n")]),
+        ..VERIFY
+    },
+    Run {
+        name: "no bytes",
+        input: &[],
+        status: 9,
+        output: Output::Is(&[Text("fault NotJson\n")]),
+        ..VERIFY
+    },
+    Run {
+        name: "as many bytes as may be",
+        input: &[Times(b" ", 1_048_576)],
+        piece: 65536,
+        status: 9,
+        output: Output::Is(&[Text("fault NotJson\n")]),
+        ..VERIFY
+    },
+    Run {
+        name: "a byte more",
+        input: &[Times(b" ", 1_048_577)],
+        piece: 65536,
+        status: 8,
+        output: Output::Is(&[Text("fault json 1048576\n")]),
+        ..VERIFY
+    },
+];
+
+/// The receipt, in which a text stands in the place of another one.
+const CHANGED: Inputs = &[
+    // One digit of the signature.
+    (
+        &[
+            Before(FIRST, "da2ccb0\""),
+            Text("da2ccb1\""),
+            After(FIRST, "da2ccb0\""),
+        ],
+        1,
+        "fault Hss Root a7a24839771255cc569a756587190a352a436906ab9bddd2195bd273aab4fc3f \
+        3182f12c6b8fdaa5c03c5413e8cb585aa260279eb70e3b2f90ab6d35e925e432",
+    ),
+    // The side of a sibling.
+    (
+        &[
+            Before(FIRST, "\"left\""),
+            Text("\"right\""),
+            After(FIRST, "\"left\""),
+        ],
+        1,
+        "fault Hss Root a7a24839771255cc569a756587190a352a436906ab9bddd2195bd273aab4fc3f \
+        b28c6ffec07749a34b0f1c8c6d7fd772bb21e023d2fe102e573789b7f034eed5",
+    ),
+    // The levels of the signature.
+    (
+        &[
+            Before(FIRST, "\"signature\":\"00000001"),
+            Text("\"signature\":\"00000000"),
+            After(FIRST, "\"signature\":\"00000001"),
+        ],
+        1,
+        "fault Hss Levels 1 0",
+    ),
+    (
+        &[
+            Before(FIRST, "ce:2.3"),
+            Text("ce:2.4"),
+            After(FIRST, "ce:2.3"),
+        ],
+        1,
+        "fault Evidence",
+    ),
+    // Its first brace is gone.
+    (&[After(FIRST, "{")], 9, "fault NotJson"),
+    (
+        &[
+            Before(FIRST, "\"signature\":\"00"),
+            Text("\"signature\":\"0G"),
+            After(FIRST, "\"signature\":\"00"),
+        ],
+        9,
+        "fault Hex /signature",
+    ),
+    // A number for its proof.
+    (
+        &[Before(FIRST, "["), Text("3"), After(FIRST, "]")],
+        9,
+        "fault Shape /proof",
+    ),
+];
+
+fn play_receipts(rt: &impl Abort, table: &mut Table) -> Result<(), AllocError> {
+    table.play_all(rt, RECEIPTS)
 }
 
-/// The receipt with the first such piece changed.
-fn changed(alloc: Global, piece: &str, by: &str) -> Result<Vec<u8>, AllocError> {
-    let (prefix, rest) = RECEIPT.split_once(piece).unwrap_or(("no such piece", ""));
-    join(alloc, &[prefix.as_bytes(), by.as_bytes(), rest.as_bytes()])
+fn play_no_receipts(rt: &impl Abort, table: &mut Table) -> Result<(), AllocError> {
+    table.play_all(rt, NO_RECEIPTS)
 }
 
-/// The receipt with a number for its proof.
-fn without_proof(alloc: Global) -> Result<Vec<u8>, AllocError> {
-    let (prefix, rest) = RECEIPT.split_once("[").unwrap_or(("", ""));
-    let (_, rest) = rest.split_once("]").unwrap_or(("", ""));
-    join(alloc, &[prefix.as_bytes(), b"3", rest.as_bytes()])
+fn play_changed(rt: &impl Abort, table: &mut Table) -> Result<(), AllocError> {
+    table.play_inputs(rt, &VERIFY, CHANGED)
 }
 
-fn verified(alloc: Global, text: &[u8]) -> Result<(u8, Vec<u8>), AllocError> {
-    run(alloc, &["verify", "--identity", IDENTITY], text)
-}
-
-#[test]
-fn verifies_a_receipt(rt: HostRuntime) -> Result<(), Fail> {
-    let (status, written) = verified(rt.alloc(), RECEIPT.as_bytes())?;
-    assert_eq!(rt; status, 0);
-    assert_eq!(rt; written.as_slice(), b"valid 2.3\n".as_slice());
-    Ok(())
-}
-
-#[test]
-fn prints_why_a_receipt_is_not_valid(rt: HostRuntime) -> Result<(), Fail> {
-    let alloc = rt.alloc();
-    let rows = [
-        // One digit of the signature.
-        (
-            "da2ccb0\"",
-            "da2ccb1\"",
-            "fault Hss Root a7a24839771255cc569a756587190a352a436906ab9bddd2195bd273aab4fc3f \
-            3182f12c6b8fdaa5c03c5413e8cb585aa260279eb70e3b2f90ab6d35e925e432\n",
-        ),
-        // The side of a sibling.
-        (
-            "\"left\"",
-            "\"right\"",
-            "fault Hss Root a7a24839771255cc569a756587190a352a436906ab9bddd2195bd273aab4fc3f \
-            b28c6ffec07749a34b0f1c8c6d7fd772bb21e023d2fe102e573789b7f034eed5\n",
-        ),
-        (
-            "\"signature\":\"00000001",
-            "\"signature\":\"00000000",
-            "fault Hss Levels 1 0\n",
-        ),
-        ("ce:2.3", "ce:2.4", "fault Evidence\n"),
-    ];
-    for (piece, by, output) in rows {
-        let text = changed(alloc, piece, by)?;
-        let (status, written) = verified(alloc, &text)?;
-        assert_eq!(rt; status, 1, "{piece} as {by}");
-        assert_eq!(rt; written.as_slice(), output.as_bytes());
-    }
-    Ok(())
-}
-
-#[test]
-fn verifies_under_one_key_alone(rt: HostRuntime) -> Result<(), Fail> {
-    let alloc = rt.alloc();
-    let called = ["verify", "--identity", OTHER_IDENTITY];
-    let (status, written) = run(alloc, &called, RECEIPT.as_bytes())?;
-    assert_eq!(rt; status, 1);
-    assert_eq!(rt; written.as_slice(), b"fault Evidence\n".as_slice());
-    Ok(())
-}
-
-#[test]
-fn prints_what_is_no_receipt(rt: HostRuntime) -> Result<(), Fail> {
-    let alloc = rt.alloc();
-    let rows: [(Vec<u8>, &[u8]); 5] = [
-        (without_proof(alloc)?, b"fault Shape /proof\n"),
-        (changed(alloc, "{", "")?, b"fault NotJson\n"),
-        (Vec::from_slice(alloc, b"null")?, b"fault Shape .\n"),
-        (
-            changed(alloc, "\"signature\":\"00", "\"signature\":\"0G")?,
-            b"fault Hex /signature\n",
-        ),
-        (Vec::new(alloc), b"fault NotJson\n"),
-    ];
-    for (text, output) in &rows {
-        let (status, written) = verified(alloc, text)?;
-        assert_eq!(rt; status, 9);
-        assert_eq!(rt; written.as_slice(), *output);
-    }
-    Ok(())
-}
-
-#[test]
-fn prints_its_limit(rt: HostRuntime) -> Result<(), Fail> {
-    let alloc = rt.alloc();
-    let rows: [(usize, u8, &[u8]); 2] = [
-        (1_048_576, 9, b"fault NotJson\n"),
-        (1_048_577, 8, b"fault json 1048576\n"),
-    ];
-    for (count, want, output) in rows {
-        let text = b" ".repeat(alloc, count)?;
-        let mut source = SureSource::new(&text, 65536);
-        let mut sink = SureSink::new(alloc, 50);
-        let called = verify_under(alloc, IDENTITY)?;
-        assert_eq!(rt; status_of(alloc, &called, &mut source, &mut sink), want);
-        assert_eq!(rt; sink.held.as_slice(), output);
-    }
-    Ok(())
-}
-
-#[test]
-fn ends_with_3_where_a_read_fails(rt: HostRuntime) -> Result<(), Fail> {
-    let alloc = rt.alloc();
-    let called = verify_under(alloc, IDENTITY)?;
-    for at in 1..4 {
-        let failing = [at];
-        let mut source = MemSource::new(RECEIPT.as_bytes(), 3000, &failing);
-        let mut sink = SureSink::new(alloc, 50);
-        assert_eq!(rt;
-            status_of(alloc, &called, &mut source, &mut sink),
-            3,
-            "at read {at}"
-        );
-        assert_eq!(rt; sink.held.len(), 0);
-    }
-    Ok(())
-}
-
-#[test]
-fn ends_with_4_after_what_was_written(rt: HostRuntime) -> Result<(), Fail> {
-    let alloc = rt.alloc();
-    let called = verify_under(alloc, IDENTITY)?;
-    let rows: [(u64, &[u8]); 2] = [(1, b""), (2, b"valid")];
-    for (at, output) in rows {
-        let failing = [at];
-        let mut source = SureSource::new(RECEIPT.as_bytes(), 3000);
-        let mut sink = MemSink::new(alloc, 5, &failing);
-        assert_eq!(rt;
-            status_of(alloc, &called, &mut source, &mut sink),
-            4,
-            "at write {at}"
-        );
-        assert_eq!(rt; sink.inner.held.as_slice(), output);
-    }
-    Ok(())
+/// Plays receipts that are verified.
+pub fn play(rt: &impl Abort, table: &mut Table) -> Result<(), AllocError> {
+    play_receipts(rt, table)?;
+    play_no_receipts(rt, table)?;
+    play_changed(rt, table)
 }

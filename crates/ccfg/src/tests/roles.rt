@@ -1,14 +1,15 @@
 //! Each event at each role, worked out by hand, and the limit on configurations that wait.
 
-ghost use Rattle.std.specs.Prelude.{◌<◌};
-
-use crate::tests::members::{Rows, answers, plays};
-use crate::tests::world;
-use std::alloc::{AllocError, Global};
-use std::test::Fail;
+use crate::tests::part::Lines;
+use crate::tests::part::Part::{Answered, Asked, Each, Text, World};
+use crate::tests::run::{Output, Run};
+use crate::tests::schedules::REPLAY;
+use crate::tests::table::Table;
+use std::alloc::AllocError;
+use std::process::Abort;
 
 /// Node 1 leads view 2, node 2 follows, and node 3 stands in view 3.
-const REQUESTS: Rows<'static> = &[
+const REQUESTS: Lines<'static> = &[
     ("timeout 3", "candidate sent 1 2"),
     // At the leader.
     ("timeout 1", "idle"),
@@ -45,7 +46,7 @@ const REQUESTS: Rows<'static> = &[
 ];
 
 /// Nodes 2 and 3 stand in view 3, and node 2 wins.
-const MESSAGES: Rows<'static> = &[
+const MESSAGES: Lines<'static> = &[
     ("submit 1 put public:t 61 01", "accepted 2.3 done"),
     ("replicate 1 2", "ok sent 1"),
     ("replicate 1 3", "ok sent 2"),
@@ -85,7 +86,7 @@ const MESSAGES: Rows<'static> = &[
 
 /// Proposals to stand: at a follower, at a candidate and at a leader, both of a later view, and at
 /// a candidate of its view.
-const PROPOSALS: Rows<'static> = &[
+const PROPOSALS: Lines<'static> = &[
     ("timeout 3", "candidate sent 1 2"),
     ("stepdown 1 2", "ok sent 3"),
     ("deliver 3", "candidate sent 4 5"),
@@ -98,7 +99,7 @@ const PROPOSALS: Rows<'static> = &[
 ];
 
 /// The leader of an earlier view stands too.
-const LATER_PROPOSAL: Rows<'static> = &[
+const LATER_PROPOSAL: Lines<'static> = &[
     ("timeout 2", "candidate sent 1 2"),
     ("deliver 2", "ok sent 3"),
     ("deliver 3", "leader"),
@@ -106,74 +107,81 @@ const LATER_PROPOSAL: Rows<'static> = &[
     ("deliver 4", "candidate sent 5 6"),
 ];
 
-#[test]
-fn plays_each_event_at_each_role(rt: HostRuntime) -> Result<(), Fail> {
-    for rows in [REQUESTS, MESSAGES, PROPOSALS, LATER_PROPOSAL] {
-        plays(&rt, rt.alloc(), b"3 0 1 open", rows)?;
-    }
-    Ok(())
-}
+/// A proposal that trusts a node, and the vote that accepts it.
+const TRUST: &str = concat!(
+    r##"propose 1 1 {"actions":[{"args":{"node":"#%"},"name":"transition_node_to_trusted"}]}"##,
+    "\nballot 1 1 % yes\n"
+);
 
-/// Member 1 is active, and nodes 2 to 10 ask to join.
-const JOINED: &[u8] =
-    b"ack 1 1\njoin 1 2\njoin 1 3\njoin 1 4\njoin 1 5\njoin 1 6\njoin 1 7\njoin 1 8\njoin 1 9\njoin 1 10\n";
+/// One that removes a node, and the vote.
+const REMOVE: &str = concat!(
+    r##"propose 1 1 {"actions":[{"args":{"node":"#%"},"name":"remove_node"}]}"##,
+    "\nballot 1 1 % yes\n"
+);
 
-const JOINED_TEXT: &[u8] =
-    b"1 ok\n2 accepted 2.3\n3 accepted 2.4\n4 accepted 2.5\n5 accepted 2.6\n6 accepted 2.7\n7 accepted 2.8\n8 accepted 2.9\n9 accepted 2.10\n10 accepted 2.11\n11 accepted 2.12\n";
+/// One by another member.
+const SIXTEENTH: &str = concat!(
+    r##"propose 1 2 {"actions":[{"args":{"node":"#4"},"name":"remove_node"}]}"##,
+    "\n"
+);
 
-/// The action and the node of a proposal, of which the first is 0: nodes 2 to 10 are trusted one by
-/// one, and then nodes 10 to 5 removed.
-fn changed_node(index: usize) -> (&'static str, usize) {
-    if index < 9 {
-        return ("transition_node_to_trusted", index + 2);
-    }
-    ("remove_node", 19usize.saturating_sub(index))
-}
+const RUNS: &[Run<'static>] = &[
+    Run {
+        name: "requests at each role",
+        input: &[World("3 0 1 open"), Asked(REQUESTS)],
+        output: Output::Is(&[Text("1 ok\n"), Answered(2, REQUESTS)]),
+        ..REPLAY
+    },
+    Run {
+        name: "messages at each role",
+        input: &[World("3 0 1 open"), Asked(MESSAGES)],
+        output: Output::Is(&[Text("1 ok\n"), Answered(2, MESSAGES)]),
+        ..REPLAY
+    },
+    Run {
+        name: "proposals to stand",
+        input: &[World("3 0 1 open"), Asked(PROPOSALS)],
+        output: Output::Is(&[Text("1 ok\n"), Answered(2, PROPOSALS)]),
+        ..REPLAY
+    },
+    Run {
+        name: "a leader of an earlier view stands",
+        input: &[World("3 0 1 open"), Asked(LATER_PROPOSAL)],
+        output: Output::Is(&[Text("1 ok\n"), Answered(2, LATER_PROPOSAL)]),
+        ..REPLAY
+    },
+    // Fifteen configurations after commit wait, made by member 1 alone: nodes 2 to 10 are trusted
+    // one by one, and then nodes 10 to 5 removed. Two members make a sixteenth, and no mark is
+    // taken.
+    Run {
+        name: "sixteen configurations after commit",
+        input: &[
+            World("1 9 2 open"),
+            Text("ack 1 1\n"),
+            Each(9, "join 1 %\n", &[(2, 1)]),
+            Each(9, TRUST, &[(2, 1), (1, 1)]),
+            Each(6, REMOVE, &[(10, -1), (10, 1)]),
+            Text("ack 1 2\n"),
+            Text(SIXTEENTH),
+            Text("ballot 1 1 16 yes\nballot 1 2 16 yes\nmark 1 4\n"),
+        ],
+        output: Output::Is(&[
+            Text("1 ok\n"),
+            Each(10, "% accepted 2.%\n", &[(2, 1), (3, 1)]),
+            Each(
+                15,
+                "% accepted 2.% proposal % Open\n% accepted 2.% proposal % Accepted\n",
+                &[(12, 2), (13, 2), (1, 1), (13, 2), (14, 2), (1, 1)],
+            ),
+            Text("42 accepted 2.43\n43 accepted 2.44 proposal 16 Open\n"),
+            Text("44 accepted 2.45 proposal 16 Open\n"),
+            Text("45 accepted 2.46 proposal 16 Accepted\n46 refused 111 16\n"),
+        ]),
+        ..REPLAY
+    },
+];
 
-/// Adds such a proposal and the vote that accepts it, and what is told of both.
-fn add_change(
-    alloc: Global,
-    text: &mut Vec<u8>,
-    output: &mut Vec<u8>,
-    index: usize,
-) -> Result<(), AllocError>
-    requires { index < 15 }
-{
-    let (action, node) = changed_node(index);
-    let number = index + 1;
-    text.extend_from_slice(b"propose 1 1 {\"actions\":[{\"args\":{\"node\":\"#")?;
-    text.extend_from_slice(format!(in alloc; "{node}")?.as_bytes())?;
-    text.extend_from_slice(b"\"},\"name\":\"")?;
-    text.extend_from_slice(action.as_bytes())?;
-    text.extend_from_slice(b"\"}]}\n")?;
-    text.extend_from_slice(format!(in alloc; "ballot 1 1 {number} yes\n")?.as_bytes())?;
-    let (line, seqno) = (12 + 2 * index, 13 + 2 * index);
-    let reported = format!(in alloc; "{line} accepted 2.{seqno} proposal {number} Open\n")?;
-    output.extend_from_slice(reported.as_bytes())?;
-    let (line, seqno) = (line + 1, seqno + 1);
-    let reported = format!(in alloc; "{line} accepted 2.{seqno} proposal {number} Accepted\n")?;
-    output.extend_from_slice(reported.as_bytes())?;
-    Ok(())
-}
-
-/// A sixteenth configuration after commit, by two members, and a mark of its node.
-const SIXTEENTH: &[u8] =
-    b"ack 1 2\npropose 1 2 {\"actions\":[{\"args\":{\"node\":\"#4\"},\"name\":\"remove_node\"}]}\nballot 1 1 16 yes\nballot 1 2 16 yes\nmark 1 4\n";
-
-const SIXTEENTH_TEXT: &[u8] =
-    b"42 accepted 2.43\n43 accepted 2.44 proposal 16 Open\n44 accepted 2.45 proposal 16 Open\n45 accepted 2.46 proposal 16 Accepted\n46 refused 111 16\n";
-
-#[test]
-fn waits_after_sixteen_configurations(rt: HostRuntime) -> Result<(), Fail> {
-    let alloc = rt.alloc();
-    let mut text = world(alloc, b"1 9 2 open")?;
-    let mut output = Vec::from_slice(alloc, JOINED_TEXT)?;
-    text.extend_from_slice(JOINED)?;
-    for index in 0..15usize {
-        add_change(alloc, &mut text, &mut output, index)?;
-    }
-    text.extend_from_slice(SIXTEENTH)?;
-    output.extend_from_slice(SIXTEENTH_TEXT)?;
-    answers(&rt, alloc, &text, &output)?;
-    Ok(())
+/// Plays each event at each role.
+pub fn play(rt: &impl Abort, table: &mut Table) -> Result<(), AllocError> {
+    table.play_all(rt, RUNS)
 }

@@ -1,10 +1,13 @@
-//! Words that ask for nothing, and the kind of fault that is reported.
+//! Words that ask for nothing, and the kind of fault that is reported; and what `main` reads
+//! itself.
 
+use crate::tests::part::Part::World;
 use crate::tests::receipts::IDENTITY;
-use crate::tests::{one_open, run, status_of, to_words};
-use crate::{invocation_of, printed_of_itself};
-use gl_commands::HELP;
-use gl_outside::{MemSource, SureSink};
+use crate::tests::run::{Output, RUN, Run, Words};
+use crate::tests::table::Table;
+use crate::{HELP, invocation_of, printed_of_itself};
+use std::alloc::{AllocError, Global};
+use std::process::Abort;
 use std::test::Fail;
 
 /// The key in upper-case digits.
@@ -17,113 +20,225 @@ const SHORT: &str = "\
     000000020000000500000004c00d2e39cbe697efbbf49e528e1da22e3c8d981478775288251eae18295c29a50a6\
     c0425d60a46a45eccedd059ce146";
 
-#[test]
-fn prints_one_kind_of_fault(rt: HostRuntime) -> Result<(), Fail> {
-    let alloc = rt.alloc();
-    let rows: [(&[&str], &str); 46] = [
-        (&[], "MissingSubcommand"),
-        (&[""], "InvalidSubcommand"),
-        (&["foo"], "InvalidSubcommand"),
-        (&["Replay"], "InvalidSubcommand"),
-        (&["help"], "InvalidSubcommand"),
-        (&["--", "replay"], "UnknownArgument"),
-        (&["replay", "x"], "UnknownArgument"),
-        (&["replay", "replay"], "UnknownArgument"),
-        (&["replay", "--identity", IDENTITY], "UnknownArgument"),
-        (&["verify"], "MissingRequiredArgument"),
-        (&["verify", IDENTITY], "UnknownArgument"),
-        (&["verify", "--identity"], "InvalidValue"),
-        (
-            &["verify", "--identity", IDENTITY, "--identity", IDENTITY],
-            "ArgumentConflict",
-        ),
-        (&["verify", "--identity", UPPER], "ValueValidation"),
-        (&["verify", "--identity", SHORT], "ValueValidation"),
-        (&["verify", "--identity", ""], "ValueValidation"),
-        (&["verify", "--identity=00", "x"], "UnknownArgument"),
-        (&["node", "--ticks", "0"], "ValueValidation"),
-        (&["node", "--workers", "1"], "ValueValidation"),
-        (&["node", "--turns"], "InvalidValue"),
-        (&["node", "00"], "ValueValidation"),
-        (&["audit"], "MissingRequiredArgument"),
-        (&["audit", "--identity", SHORT], "ValueValidation"),
-        (&["audit", "--identity", IDENTITY, "x"], "UnknownArgument"),
-        (&["keygen"], "MissingRequiredArgument"),
-        (&["keygen", "--kind", "node"], "MissingRequiredArgument"),
-        (&["keygen", "--types", "h5w4"], "MissingRequiredArgument"),
-        (
-            &["keygen", "--kind", "nodes", "--types", "h5w4"],
-            "InvalidValue",
-        ),
-        (
-            &["keygen", "--kind", "node", "--types", "h5w5"],
-            "InvalidValue",
-        ),
-        (&["keygen", "--kind", "", "--types", ""], "InvalidValue"),
-        (&["keygen", "--kind", "node", "--types"], "InvalidValue"),
-        (
-            &["keygen", "--kind", "node", "--types", "h5w4", "x"],
-            "UnknownArgument",
-        ),
-        (
-            &["@disk=a", "keygen", "--kind", "node", "--types", "h5w4"],
-            "InvalidSubcommand",
-        ),
-        (&["deal", "5"], "MissingRequiredArgument"),
-        (&["deal", "--threshold", "1"], "MissingRequiredArgument"),
-        (&["deal", "--threshold", "1", "7", "08"], "ValueValidation"),
-        (
-            &["deal", "--threshold", "18446744073709551616", "7"],
-            "ValueValidation",
-        ),
-        (&["endorse", "x"], "UnknownArgument"),
-        (&["genesis", "--member", "1"], "UnknownArgument"),
-        (&["sign", "--member", "1"], "MissingRequiredArgument"),
-        (&["sign", "--identity", IDENTITY], "MissingRequiredArgument"),
-        (
-            &["sign", "--identity", SHORT, "--member", "1"],
-            "ValueValidation",
-        ),
-        (
-            &["sign", "--identity", IDENTITY, "--member"],
-            "InvalidValue",
-        ),
-        (
-            &["sign", "--identity", IDENTITY, "--member=1", "x"],
-            "UnknownArgument",
-        ),
-        (&["--help"], "DisplayHelp"),
-        (&["--version"], "DisplayVersion"),
-    ];
-    let text = one_open(alloc)?;
-    for (called, kind) in rows {
-        let (status, written) = run(alloc, called, &text)?;
-        let output = format!(in alloc; "fault {kind}\n")?;
-        assert_eq!(rt; status, 2, "of {called:?}");
-        assert_eq!(rt; written.as_slice(), output.as_bytes(), "of {called:?}");
-    }
-    Ok(())
+/// Words, and what is printed for them: no command,
+const NO_COMMAND: Words = &[
+    (&[], "fault MissingSubcommand"),
+    (&[""], "fault InvalidSubcommand"),
+    (&["foo"], "fault InvalidSubcommand"),
+    (&["Replay"], "fault InvalidSubcommand"),
+    (&["help"], "fault InvalidSubcommand"),
+    (&["--", "replay"], "fault UnknownArgument"),
+];
+
+/// words of `replay`,
+const OF_REPLAY: Words = &[
+    (&["replay", "x"], "fault UnknownArgument"),
+    (&["replay", "replay"], "fault UnknownArgument"),
+    (&["replay", "--identity", IDENTITY], "fault UnknownArgument"),
+];
+
+/// `verify`,
+const OF_VERIFY: Words = &[
+    (&["verify"], "fault MissingRequiredArgument"),
+    (&["verify", IDENTITY], "fault UnknownArgument"),
+    (&["verify", "--identity"], "fault InvalidValue"),
+    (
+        &["verify", "--identity", IDENTITY, "--identity", IDENTITY],
+        "fault ArgumentConflict",
+    ),
+    (&["verify", "--identity", UPPER], "fault ValueValidation"),
+    (&["verify", "--identity", SHORT], "fault ValueValidation"),
+    (&["verify", "--identity", ""], "fault ValueValidation"),
+    (&["verify", "--identity=00", "x"], "fault UnknownArgument"),
+];
+
+/// `node`,
+const OF_NODE: Words = &[
+    (&["node", "--ticks", "0"], "fault ValueValidation"),
+    (&["node", "--workers", "1"], "fault ValueValidation"),
+    (&["node", "--turns"], "fault InvalidValue"),
+    (&["node", "00"], "fault ValueValidation"),
+];
+
+/// `audit`,
+const OF_AUDIT: Words = &[
+    (&["audit"], "fault MissingRequiredArgument"),
+    (&["audit", "--identity", SHORT], "fault ValueValidation"),
+    (
+        &["audit", "--identity", IDENTITY, "x"],
+        "fault UnknownArgument",
+    ),
+];
+
+/// `keygen`,
+const OF_KEYGEN: Words = &[
+    (&["keygen"], "fault MissingRequiredArgument"),
+    (
+        &["keygen", "--kind", "node"],
+        "fault MissingRequiredArgument",
+    ),
+    (
+        &["keygen", "--types", "h5w4"],
+        "fault MissingRequiredArgument",
+    ),
+    (
+        &["keygen", "--kind", "nodes", "--types", "h5w4"],
+        "fault InvalidValue",
+    ),
+    (
+        &["keygen", "--kind", "node", "--types", "h5w5"],
+        "fault InvalidValue",
+    ),
+    (
+        &["keygen", "--kind", "", "--types", ""],
+        "fault InvalidValue",
+    ),
+    (
+        &["keygen", "--kind", "node", "--types"],
+        "fault InvalidValue",
+    ),
+    (
+        &["keygen", "--kind", "node", "--types", "h5w4", "x"],
+        "fault UnknownArgument",
+    ),
+    (
+        &["@disk=a", "keygen", "--kind", "node", "--types", "h5w4"],
+        "fault InvalidSubcommand",
+    ),
+];
+
+/// `deal`,
+const OF_DEAL: Words = &[
+    (&["deal", "5"], "fault MissingRequiredArgument"),
+    (
+        &["deal", "--threshold", "1"],
+        "fault MissingRequiredArgument",
+    ),
+    (
+        &["deal", "--threshold", "1", "7", "08"],
+        "fault ValueValidation",
+    ),
+    (
+        &["deal", "--threshold", "18446744073709551616", "7"],
+        "fault ValueValidation",
+    ),
+];
+
+/// `endorse`, `genesis` and `sign`,
+const OF_SIGN: Words = &[
+    (&["endorse", "x"], "fault UnknownArgument"),
+    (&["genesis", "--member", "1"], "fault UnknownArgument"),
+    (&["sign", "--member", "1"], "fault MissingRequiredArgument"),
+    (
+        &["sign", "--identity", IDENTITY],
+        "fault MissingRequiredArgument",
+    ),
+    (
+        &["sign", "--identity", SHORT, "--member", "1"],
+        "fault ValueValidation",
+    ),
+    (
+        &["sign", "--identity", IDENTITY, "--member"],
+        "fault InvalidValue",
+    ),
+    (
+        &["sign", "--identity", IDENTITY, "--member=1", "x"],
+        "fault UnknownArgument",
+    ),
+];
+
+/// and what `main` prints of itself.
+const OF_ITSELF: Words = &[
+    (&["--help"], "fault DisplayHelp"),
+    (&["--version"], "fault DisplayVersion"),
+];
+
+const NOTHING: Run<'static> = Run {
+    name: "words that ask for nothing",
+    input: &[World("1 0 1 open")],
+    status: 2,
+    ..RUN
+};
+
+/// Words that ask for nothing leave the source unread.
+const UNREAD: &[Run<'static>] = &[Run {
+    name: "the source is unread",
+    words: &["play"],
+    reads: &[1],
+    output: Output::Line("fault InvalidSubcommand"),
+    ..NOTHING
+}];
+
+fn play_unread(rt: &impl Abort, table: &mut Table) -> Result<(), AllocError> {
+    table.play_all(rt, UNREAD)
 }
 
-#[test]
-fn leaves_the_source_unread(rt: HostRuntime) -> Result<(), Fail> {
-    let alloc = rt.alloc();
-    let called = to_words(alloc, &["play"])?;
-    let failing = [1];
-    let mut source = MemSource::new(b"world", 1, &failing);
-    let mut sink = SureSink::new(alloc, 50);
-    assert_eq!(rt; status_of(alloc, &called, &mut source, &mut sink), 2);
-    Ok(())
+fn play_no_command(rt: &impl Abort, table: &mut Table) -> Result<(), AllocError> {
+    table.play_words(rt, &NOTHING, NO_COMMAND)
+}
+
+fn play_of_replay(rt: &impl Abort, table: &mut Table) -> Result<(), AllocError> {
+    table.play_words(rt, &NOTHING, OF_REPLAY)
+}
+
+fn play_of_verify(rt: &impl Abort, table: &mut Table) -> Result<(), AllocError> {
+    table.play_words(rt, &NOTHING, OF_VERIFY)
+}
+
+fn play_of_node(rt: &impl Abort, table: &mut Table) -> Result<(), AllocError> {
+    table.play_words(rt, &NOTHING, OF_NODE)
+}
+
+fn play_of_audit(rt: &impl Abort, table: &mut Table) -> Result<(), AllocError> {
+    table.play_words(rt, &NOTHING, OF_AUDIT)
+}
+
+fn play_of_keygen(rt: &impl Abort, table: &mut Table) -> Result<(), AllocError> {
+    table.play_words(rt, &NOTHING, OF_KEYGEN)
+}
+
+fn play_of_deal(rt: &impl Abort, table: &mut Table) -> Result<(), AllocError> {
+    table.play_words(rt, &NOTHING, OF_DEAL)
+}
+
+fn play_of_sign(rt: &impl Abort, table: &mut Table) -> Result<(), AllocError> {
+    table.play_words(rt, &NOTHING, OF_SIGN)
+}
+
+fn play_of_itself(rt: &impl Abort, table: &mut Table) -> Result<(), AllocError> {
+    table.play_words(rt, &NOTHING, OF_ITSELF)
+}
+
+/// Plays words that ask for nothing.
+pub fn play(rt: &impl Abort, table: &mut Table) -> Result<(), AllocError> {
+    play_unread(rt, table)?;
+    play_no_command(rt, table)?;
+    play_of_replay(rt, table)?;
+    play_of_verify(rt, table)?;
+    play_of_node(rt, table)?;
+    play_of_audit(rt, table)?;
+    play_of_keygen(rt, table)?;
+    play_of_deal(rt, table)?;
+    play_of_sign(rt, table)?;
+    play_of_itself(rt, table)
+}
+
+fn words_of(alloc: Global, words: &[&str]) -> Result<Vec<String>, AllocError> {
+    let mut held = Vec::new(alloc);
+    for word in words {
+        held.push(String::from_str(alloc, word)?)?;
+    }
+    Ok(held)
 }
 
 #[test]
 fn prints_of_itself(rt: HostRuntime) -> Result<(), Fail> {
     let alloc = rt.alloc();
-    let help = printed_of_itself(alloc, &to_words(alloc, &["--help"])?)?.ok_or("no help")?;
+    let help = printed_of_itself(alloc, &words_of(alloc, &["--help"])?)?.ok_or("no help")?;
     assert_eq!(rt; help.as_str(), HELP);
-    let version = printed_of_itself(alloc, &to_words(alloc, &["--version"])?)?.ok_or("no version")?;
+    let version = printed_of_itself(alloc, &words_of(alloc, &["--version"])?)?.ok_or("no version")?;
     assert_eq!(rt; version.as_str(), "ccfg 0.1.0\n");
-    assert!(rt; printed_of_itself(alloc, &to_words(alloc, &["--help", "replay"])?)?.is_none());
+    assert!(rt; printed_of_itself(alloc, &words_of(alloc, &["--help", "replay"])?)?.is_none());
     Ok(())
 }
 
@@ -143,7 +258,7 @@ fn takes_the_last_path_of_a_disk(rt: HostRuntime) -> Result<(), Fail> {
         (&["@disk", "@disk=a"], None, 2),
     ];
     for (called, path, count) in rows {
-        let called = to_words(alloc, called)?;
+        let called = words_of(alloc, called)?;
         let called = invocation_of(alloc, &called)?;
         assert_eq!(rt; called.disk, path);
         assert_eq!(rt; called.words.len(), count);

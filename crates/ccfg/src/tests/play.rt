@@ -1,0 +1,175 @@
+//! A run is played over objects in memory.
+
+use crate::program::top;
+use crate::tests::Unwatched;
+use crate::tests::part::{Left, Part, bytes_of, framed};
+use crate::tests::run::{Arrival, Run};
+use gl_outside::{
+    Disk, Incoming, MemDisk, MemLink, MemSink, MemSource, OpenGate, SureDisk, SureLink,
+};
+use std::alloc::{AllocError, Global};
+
+/// What comes over a link, as bytes.
+#[derive(Debug, Drop)]
+enum Coming {
+    Bytes(u64, Vec<u8>),
+    Tick,
+}
+
+/// What a run is given, as bytes.
+#[derive(Debug, Drop)]
+struct Prepared {
+    words: Vec<String>,
+    input: Vec<u8>,
+    coming: Vec<Coming>,
+}
+
+/// A word, or the member of an earlier run's JSON that it names.
+fn word_of(alloc: Global, word: &str, lefts: &[Left]) -> Result<String, AllocError> {
+    let bytes = if let Some(name) = word.strip_prefix("$key of ") {
+        bytes_of(alloc, &[Part::Member(name, "key")], lefts)?
+    } else if let Some(name) = word.strip_prefix("$node of ") {
+        bytes_of(alloc, &[Part::Member(name, "node")], lefts)?
+    } else {
+        word.as_bytes().to_vec(alloc)?
+    };
+    String::from_str(alloc, str::from_utf8(&bytes).unwrap_or(""))
+}
+
+fn words_of(alloc: Global, words: &[&str], lefts: &[Left]) -> Result<Vec<String>, AllocError> {
+    let mut held = Vec::new(alloc);
+    for word in words {
+        held.push(word_of(alloc, word, lefts)?)?;
+    }
+    Ok(held)
+}
+
+fn add_coming(
+    alloc: Global,
+    coming: &mut Vec<Coming>,
+    arrival: &Arrival<'_>,
+    lefts: &[Left],
+) -> Result<(), AllocError> {
+    match arrival {
+        Arrival::Bytes(conn, parts) => {
+            coming.push(Coming::Bytes(*conn, bytes_of(alloc, parts, lefts)?))?;
+        }
+        Arrival::Payload(conn, parts) => {
+            let payload = bytes_of(alloc, parts, lefts)?;
+            coming.push(Coming::Bytes(*conn, framed(alloc, &payload)?))?;
+        }
+        Arrival::Single(conn, parts) => {
+            for byte in &bytes_of(alloc, parts, lefts)? {
+                coming.push(Coming::Bytes(*conn, Vec::from_slice(alloc, &[*byte])?))?;
+            }
+        }
+        Arrival::Ticks(count) => {
+            for _ in 0..*count {
+                coming.push(Coming::Tick)?;
+            }
+        }
+    }
+    Ok(())
+}
+
+fn prepare(alloc: Global, run: &Run<'_>, lefts: &[Left]) -> Result<Prepared, AllocError> {
+    let mut coming = Vec::new(alloc);
+    for arrival in run.link {
+        add_coming(alloc, &mut coming, arrival, lefts)?;
+    }
+    let words = words_of(alloc, run.words, lefts)?;
+    let mut input = bytes_of(alloc, run.input, lefts)?;
+    input.truncate(run.cut);
+    Ok(Prepared {
+        words,
+        input,
+        coming,
+    })
+}
+
+fn incoming_of(alloc: Global, coming: &[Coming]) -> Result<Vec<Incoming<'_>>, AllocError> {
+    let mut given = Vec::new(alloc);
+    for one in coming {
+        given.push(match one {
+            Coming::Bytes(conn, bytes) => Incoming::Bytes(*conn, bytes),
+            Coming::Tick => Incoming::Tick,
+        })?;
+    }
+    Ok(given)
+}
+
+/// Calls the program with these objects, and a disk.
+fn call<D: Disk + Drop + Send>(
+    alloc: Global,
+    run: &Run<'_>,
+    prepared: &Prepared,
+    disk: D,
+) -> Result<(Left, D), AllocError> {
+    let given = incoming_of(alloc, &prepared.coming)?;
+    let mut source = MemSource::new(&prepared.input, run.piece, run.reads);
+    let mut sink = MemSink::new(alloc, run.sink_piece, run.writes);
+    let mut link = MemLink::new(SureLink::new(alloc, &given), run.nexts, run.sends);
+    let (status, disk) = top(
+        alloc,
+        &prepared.words,
+        &mut source,
+        &mut sink,
+        disk,
+        &mut link,
+        Unwatched,
+        &OpenGate,
+    );
+    let disk_faults = disk.faults();
+    let inward = source.plan.faults().saturating_add(link.nexts.faults());
+    let outward = sink.plan.faults().saturating_add(link.sends.faults());
+    let left = Left {
+        name: run.name,
+        status,
+        given: Vec::new(alloc),
+        written: sink.inner.held,
+        disk: Vec::new(alloc),
+        disk_changes: 0,
+        disk_faults,
+        is_read_whole: source.inner.ended,
+        traffic: link.inner.past,
+        faults: inward.saturating_add(outward).saturating_add(disk_faults),
+    };
+    Ok((left, disk))
+}
+
+/// The calls of a disk that isn't there: each fails, and a run makes no more after them.
+const FIRST_CALLS: &[u64] = &[1, 2, 3, 4, 5, 6, 7, 8];
+
+fn play_without_disk(
+    alloc: Global,
+    run: &Run<'_>,
+    prepared: &Prepared,
+) -> Result<Left, AllocError> {
+    let none = MemDisk::new(SureDisk::new(alloc), FIRST_CALLS);
+    let (left, _disk) = call(alloc, run, prepared, none)?;
+    Ok(left)
+}
+
+fn play_over_disk(
+    alloc: Global,
+    run: &Run<'_>,
+    prepared: &Prepared,
+    bytes: &[u8],
+) -> Result<Left, AllocError> {
+    let disk = MemDisk::new(SureDisk::holding(alloc, bytes)?, run.disk_calls);
+    let (mut left, disk) = call(alloc, run, prepared, disk)?;
+    left.disk_changes = disk.inner.calls.len();
+    left.disk = disk.inner.bytes;
+    Ok(left)
+}
+
+/// Plays a run after earlier ones.
+pub fn play(alloc: Global, run: &Run<'_>, lefts: &[Left]) -> Result<Left, AllocError> {
+    let prepared = prepare(alloc, run, lefts)?;
+    let mut left = match run.disk {
+        Some(parts) => play_over_disk(alloc, run, &prepared, &bytes_of(alloc, parts, lefts)?)?,
+        None => play_without_disk(alloc, run, &prepared)?,
+    };
+    left.given = prepared.input;
+    Ok(left)
+}

@@ -106,8 +106,8 @@ file_kept bytes d b x is f e other = subst (λ (s : Durable). IsFileIn s b x) (o
 
 -- ---- a restart
 
-pub turned : (old new : SeenFileNode) (d : Durable) → opened old.disk.bytes.items ≡ Ok d → opened new.disk.bytes.items ≡ Ok d → StandsForFile d new.core (λ b. restarted_node b d) →
-    Reports Stands old.core (λ b x n. (e : Durable) → opened old.disk.bytes.items ≡ Ok e → GivesRestart b n e) →
+pub turned : (old new : SeenFileNode) (d : Durable) → opened old.disk.bytes ≡ Ok d → opened new.disk.bytes ≡ Ok d → StandsForFile d new.core (λ b. restarted_node b d) →
+    Reports Stands old.core (λ b x n. (e : Durable) → opened old.disk.bytes ≡ Ok e → GivesRestart b n e) →
     (b : ServiceBook) (x : NodeId) (n : Node Entry) → StandsOverFile old b x n → StandsOverFile new b x (restart {A = Response} {F = Rejection} b n).node
 turned old new d before after stands gives b x n s =
     let f = s.file d before in
@@ -116,7 +116,7 @@ turned old new d before after stands gives b x n s =
     let as_node : StandsFor Stands new.core b x (restarted_node b d) = subst (λ (y : NodeId). StandsFor Stands new.core b y (restarted_node b d)) (sym f.named) as_book in
     record {
       core = subst (λ (m : Node Entry). StandsFor Stands new.core b x m) (gives b x n s.core d before) as_node;
-      file = file_kept new.disk.bytes.items d b x after f;
+      file = file_kept new.disk.bytes d b x after f;
     }
 
 -- it answers so, and sends nothing
@@ -124,8 +124,8 @@ restart_says : (b : ServiceBook) (n : Node Entry) → ((restart {A = Response} {
 unfolding restart
 restart_says b n = (refl, refl)
 
-pub restarted_steps : (old new : SeenFileNode) (done : ServiceDone NodeStore) (d : Durable) → opened old.disk.bytes.items ≡ Ok d → opened new.disk.bytes.items ≡ Ok d → StandsForFile d new.core (λ b. restarted_node b d) →
-    Reports Stands old.core (λ b x n. (e : Durable) → opened old.disk.bytes.items ≡ Ok e → GivesRestart b n e) → done.outcome ≡ answers.Done → done.sent ≡ [] →
+pub restarted_steps : (old new : SeenFileNode) (done : ServiceDone NodeStore) (d : Durable) → opened old.disk.bytes ≡ Ok d → opened new.disk.bytes ≡ Ok d → StandsForFile d new.core (λ b. restarted_node b d) →
+    Reports Stands old.core (λ b x n. (e : Durable) → opened old.disk.bytes ≡ Ok e → GivesRestart b n e) → done.outcome ≡ answers.Done → done.sent ≡ [] →
     Steps StandsOverFile (λ b x n. restart b n) old done new
 restarted_steps old new done d before after stands gives is none b x n s = record {
   node = turned old new d before after stands gives b x n s;
@@ -154,8 +154,8 @@ module _ (result : Result (ServiceDone NodeStore) ServiceFault) (fault : Service
 
 -- the file keeps of each node for which the core stood what the rule makes of it
 abbrev pub KeepsRule : NodeEvent → SeenFileNode → SeenFileNode → Type 0
-KeepsRule event old new = Reports Stands old.core (λ b x n. (e : Durable) → opened old.disk.bytes.items ≡ Ok e →
-    opened new.disk.bytes.items ≡ Ok (kept_after e (rule_of event b x n).node))
+KeepsRule event old new = Reports Stands old.core (λ b x n. (e : Durable) → opened old.disk.bytes ≡ Ok e →
+    opened new.disk.bytes ≡ Ok (kept_after e (rule_of event b x n).node))
 
 pub served_steps : (event : NodeEvent) (old new : SeenFileNode) (done : ServiceDone NodeStore) → IsFileNode old → KeepsRule event old new →
     node_status.Steps Stands (rule_of event) old.core done new.core → Steps StandsOverFile (rule_of event) old done new
@@ -166,7 +166,7 @@ served_steps event old new done is kept steps b x n s =
     record {
       node = record {
         core = p.node;
-        file = file_kept new.disk.bytes.items d b x now (kept_in is.state (rule_of event b x n).node b x (s.file is.state is.file.opens));
+        file = file_kept new.disk.bytes d b x now (kept_in is.state (rule_of event b x n).node b x (s.file is.state is.file.opens));
       };
       outcome = p.outcome;
       sent = p.sent;
@@ -180,14 +180,14 @@ serves_on event old new is some kept same = record {
 }
 
 -- and one that refuses
-pub refuses_on : (old new : SeenFileNode) → IsFileNode old → new.disk.bytes.items ≡ old.disk.bytes.items → new.stopped ≡ old.stopped → IsFileNode new
+pub refuses_on : (old new : SeenFileNode) → IsFileNode old → new.disk.bytes ≡ old.disk.bytes → new.stopped ≡ old.stopped → IsFileNode new
 refuses_on old new is bytes same = record {
   serves = same ∙ is.serves;
   state = is.state;
   file = record { opens = ap opened bytes ∙ is.file.opens; kind = is.file.kind };
 }
 
-pub keeps_over : (old new : SeenFileNode) → new.disk.bytes.items ≡ old.disk.bytes.items → node_status.KeepsAll Stands old.core new.core → KeepsAll StandsOverFile old new
+pub keeps_over : (old new : SeenFileNode) → new.disk.bytes ≡ old.disk.bytes → node_status.KeepsAll Stands old.core new.core → KeepsAll StandsOverFile old new
 keeps_over old new bytes keeps b x n s = record {
   core = keeps b x n s.core;
   file = λ state opens. s.file state (ap opened (sym bytes) ∙ opens);

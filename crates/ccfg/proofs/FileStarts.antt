@@ -11,8 +11,7 @@ use Rattle.gl_entry.specs.Entry.{frame_bytes, is_entry}
 use Rattle.gl_entry.specs.declared.entry.Entry.{Entry}
 use Rattle.gl_entry.proofs.EntryLaws.{body_within}
 use Rattle.gl_hss.specs.declared.types.Types.TheVariants.{H5W4}
-use Rattle.gl_outside.specs.SureDisk.{disk_past}
-use Rattle.gl_outside.specs.declared.sure_disk.SureDisk.{SureDisk}
+use Rattle.ccfg.specs.Disk.{HeldDisk}
 use Rattle.gl_journal.specs.Durable.{Durable, fold_records, key_alone, leaf_count}
 use Rattle.gl_journal.specs.Records.{RecordValue, Append, Signer, Vote, record_bytes, records_bytes, then_some}
 use Rattle.gl_journal.specs.declared.journal.Journal.{Journal}
@@ -137,8 +136,8 @@ module _ (s : Settings) (h : IsGroup s) (number : ℕ) (low : 1 ≤ number) (hig
     key = ap (λ (n : ℕ). private_key (node_seed s n)) (number_is s h number low high);
   }
 
-  pub serving_at_start : (journal : Journal SureDisk) (n : Node Entry) → StandsFor Stands core (book_of s) (id_of s number) n → IsMemoryFile journal (state_at_start s number core) →
-      IsServing Stands ledger_in goes_on_ledger true (λ (disk : SureDisk). disk.bytes.items) disk_past core journal
+  pub serving_at_start : (journal : Journal HeldDisk) (n : Node Entry) → StandsFor Stands core (book_of s) (id_of s number) n → IsMemoryFile journal (state_at_start s number core) →
+      IsServing Stands ledger_in goes_on_ledger true (λ (disk : HeldDisk). disk.bytes) (λ (disk : HeldDisk). disk.past) core journal
   serving_at_start journal n stood file = record {
     some = record { rules = book_of s; me = id_of s number; node = n; standing = stood };
     whole = holds_whole core.book;

@@ -12,6 +12,7 @@ pub mod Beginnings
 pub mod NodeRuns
 pub mod NodeMoments
 pub mod Openings
+pub mod DiskLemmas
 pub mod FileNodes
 pub mod NodeEvents
 pub mod FileStarts

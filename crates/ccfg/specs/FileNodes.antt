@@ -5,8 +5,7 @@ use Rattle.gl_rules.specs.Node.{Node}
 use Rattle.gl_entry.specs.declared.entry.Entry.{Entry}
 use Rattle.gl_requests.specs.declared.request.GovernanceRequest.{GovernanceRequest}
 use Rattle.gl_tx.specs.declared.request.Operation.{Operation}
-use Rattle.gl_outside.specs.SureDisk.{disk_past}
-use Rattle.gl_outside.specs.declared.sure_disk.SureDisk.{SureDisk}
+use Rattle.ccfg.specs.Disk.{HeldDisk}
 use Rattle.gl_journal.specs.Durable.{Durable}
 use Rattle.gl_journal.specs.declared.journal.Journal.{Journal}
 use Rattle.gl_journal.specs.declared.key.KeyKind.TheVariants as kinds
@@ -26,7 +25,7 @@ use Rattle.gl_store_book.specs.Stands.{NodeStore, Stands}
 
 -- The node, the disk with its file, and whether it has stopped.
 abbrev pub SeenFileNode : Type 0
-SeenFileNode = Seen SureDisk NodeStore (List Operation) GovernanceRequest Reads Response Rejection
+SeenFileNode = Seen HeldDisk NodeStore (List Operation) GovernanceRequest Reads Response Rejection
 
 -- The file opens to this state, and has a node's key.
 pub record OpensToNode (bytes : List ℕ) (state : Durable) : Type 0 where
@@ -37,7 +36,7 @@ pub record OpensToNode (bytes : List ℕ) (state : Durable) : Type 0 where
 pub record IsFileNode (f : SeenFileNode) : Type 0 where
   pub serves : f.stopped ≡ None
   pub state : Durable
-  pub file : OpensToNode f.disk.bytes.items state
+  pub file : OpensToNode f.disk.bytes state
 
 -- A file with this durable state is this node's, in the service of which this is the book: the
 -- node's key is the file's.
@@ -51,11 +50,11 @@ pub record IsFileIn (state : Durable) (b : ServiceBook) (x : NodeId) : Type 0 wh
 pub record StandsOverFile (f : SeenFileNode) (b : ServiceBook) (x : NodeId) (n : Node Entry) :
     Type 0 where
   pub core : StandsFor Stands f.core b x n
-  pub file : (state : Durable) → opened f.disk.bytes.items ≡ Ok state → IsFileIn state b x
+  pub file : (state : Durable) → opened f.disk.bytes ≡ Ok state → IsFileIn state b x
 
 -- A journal on a disk in memory is settled, and opens to this state.
-abbrev pub IsMemoryFile : Journal SureDisk → Durable → Type 0
-IsMemoryFile journal state = IsOpened true (λ disk. disk.bytes.items) disk_past journal state
+abbrev pub IsMemoryFile : Journal HeldDisk → Durable → Type 0
+IsMemoryFile journal state = IsOpened true (λ disk. disk.bytes) (λ disk. disk.past) journal state
 
 -- An event of a world with this rule is one of its node, with the same rule, or a restart.
 abbrev pub IsEventOf : Rule →

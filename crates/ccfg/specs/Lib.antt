@@ -5,3 +5,4 @@ pub mod Plans
 pub mod Nodes
 pub mod FileNodes
 pub mod OpeningStores
+pub mod Disk

@@ -5,6 +5,7 @@ ghost use Rattle.ccfg.specs.ExpectedOutput.{WritesOutput, output_of_answer, outp
 ghost use Rattle.ccfg.specs.Plans.{PlansPlayable, output_of_plan};
 ghost use Rattle.gl_schedule.specs.Playable.{IsPlayable};
 ghost use Rattle.gl_schedule.specs.declared.schedule.Schedule.TheVariants.{Service};
+ghost use Rattle.gl_world.specs.Keyed.{HasKeysOf};
 
 use crate::ending::Ending;
 use crate::fault::Fault;
@@ -15,8 +16,8 @@ use crate::verify::valid_line;
 use gl_base::TxId;
 use gl_lines::Lines;
 use gl_outside::{Sink, SinkFault, write_whole};
-use gl_schedule::{Schedule, play};
-use gl_world::Settings;
+use gl_schedule::{KeyedSchedule, play};
+use gl_world::{ServiceKeys, Settings};
 use std::alloc::Global;
 
 /// Tells a fault.
@@ -94,8 +95,15 @@ pub(crate) fn write_out<K: Sink>(text: &[u8], sink: &mut K) -> Ending
 
 /// Plays the lines of a service's schedule, at its nodes, each of which serves from a file in
 /// memory.
-fn play_service<K: Sink>(alloc: Global, settings: Settings, lines: Lines, sink: &mut K) -> Ending
-    requires { IsPlayable (Service settings lines) }
+fn play_service<K: Sink>(
+    alloc: Global,
+    settings: Settings,
+    lines: Lines,
+    keys: ServiceKeys,
+    sink: &mut K,
+) -> Ending
+    requires playable { IsPlayable (Service settings lines) }
+    requires keys { HasKeysOf settings keys }
     ensures { WritesOutput result (record {
       held = K.holds sink.old;
       holds = K.holds sink.new;
@@ -103,10 +111,10 @@ fn play_service<K: Sink>(alloc: Global, settings: Settings, lines: Lines, sink: 
       faults_now = K.faults sink.new;
     }) (output_of_plan (Play (Service settings lines))) }
 {
-    let Ok(nodes) = nodes(alloc, &settings) else {
+    let Ok((nodes, service)) = nodes(alloc, &settings, keys) else {
         return Ending::Memory;
     };
-    match play(alloc, settings, lines, nodes, sink) {
+    match play(alloc, settings, service, lines, nodes, sink) {
         Ok(()) => Ending::Done,
         Err(SinkFault::Failed) => Ending::SinkFailed,
         Err(SinkFault::NoMemory) => Ending::Memory,
@@ -114,7 +122,7 @@ fn play_service<K: Sink>(alloc: Global, settings: Settings, lines: Lines, sink: 
 }
 
 /// Plays a schedule; one without a service prints nothing.
-fn perform<K: Sink>(alloc: Global, schedule: Schedule, sink: &mut K) -> Ending
+fn perform<K: Sink>(alloc: Global, schedule: KeyedSchedule, sink: &mut K) -> Ending
     requires { IsPlayable schedule }
     ensures { WritesOutput result (record {
       held = K.holds sink.old;
@@ -123,9 +131,9 @@ fn perform<K: Sink>(alloc: Global, schedule: Schedule, sink: &mut K) -> Ending
       faults_now = K.faults sink.new;
     }) (output_of_plan (Play schedule)) }
 {
-    match schedule {
-        Schedule::Empty => Ending::Done,
-        Schedule::Service(settings, lines) => play_service(alloc, settings, lines, sink),
+    match schedule.into_service() {
+        None => Ending::Done,
+        Some((settings, lines, keys)) => play_service(alloc, settings, lines, keys, sink),
     }
 }
 

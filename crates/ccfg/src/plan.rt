@@ -25,7 +25,7 @@ use gl_base::{OrNoMemory, TxId};
 use gl_commands::Task;
 use gl_lines::{ScheduleFault, line_count};
 use gl_outside::{Disk, Source};
-use gl_schedule::{Schedule, read};
+use gl_schedule::{KeyedSchedule, read};
 use std::alloc::{AllocError, Global};
 
 /// The most bytes that a schedule has.
@@ -35,10 +35,10 @@ const BYTES_LIMIT: usize = 16_777_216;
 const LINES_LIMIT: usize = 100_000;
 
 /// What there is to do.
-#[derive(Debug, Drop)]
+#[derive(Drop)]
 pub enum Plan {
     /// To play a schedule.
-    Play(Schedule),
+    Play(KeyedSchedule),
     /// To tell the transaction that a valid receipt shows.
     Show(TxId),
     /// To tell the last transaction of a valid ledger, and that of its last signature.

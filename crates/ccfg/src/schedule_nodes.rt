@@ -11,12 +11,12 @@ ghost use Rattle.ccfg.specs.FileNodes.{OpensToNode, StandsOverFile};
 ghost use Rattle.gl_store_book.specs.NodeFile.{opened};
 ghost use Rattle.gl_store_book.specs.Replicas.{StandsForFile};
 
+use crate::schedule_nodes::disk::BytesDisk;
 use crate::schedule_nodes::event::node_event;
 use gl_base::{OrNoMemory, Sequence};
 use gl_config::NodeId;
 use gl_messages::Message;
 use gl_node::{NodeFault, Replica};
-use gl_outside::SureDisk;
 use gl_replication::{Core, Done, Event as NodeEvent, Outcome, Refusal};
 use gl_store_book::{NodeFile, StoreBook, a_stop_forgets_nothing};
 use gl_world::{Event, WorldNode};
@@ -24,6 +24,7 @@ use std::alloc::{AllocError, Global};
 use std::marker::Model;
 
 mod copies;
+mod disk;
 mod event;
 mod opening_stores;
 mod start;
@@ -41,22 +42,22 @@ fn only_memory<F: Copy>(error: OrNoMemory<F>) -> AllocError
 }
 
 /// A node's file with these bytes, opened on a disk of its own. Fails only where memory runs out.
-fn open_file(alloc: Global, bytes: &[u8]) -> Result<NodeFile<SureDisk>, AllocError>
+fn open_file(alloc: Global, bytes: &[u8]) -> Result<NodeFile<BytesDisk>, AllocError>
     requires { (state : State) × OpensToNode bytes.now state }
     ensures { IfOk result (λ file. OpensToNode bytes.now file.state
-        × OpensToNode file.disk.bytes.items file.state) }
+        × OpensToNode file.disk.bytes file.state) }
 {
-    match NodeFile::open(alloc, SureDisk::holding(alloc, bytes)?) {
+    match NodeFile::open(alloc, BytesDisk::holding(alloc, bytes)?) {
         Ok(file) => Ok(file),
         Err((error, _)) => Err(only_memory(error)),
     }
 }
 
 /// The node of such a file, as a restart leaves it.
-fn open_node(alloc: Global, bytes: &[u8]) -> Result<Replica<SureDisk, StoreBook>, AllocError>
+fn open_node(alloc: Global, bytes: &[u8]) -> Result<Replica<BytesDisk, StoreBook>, AllocError>
     requires { (state : State) × OpensToNode bytes.now state }
     ensures opens { IfOk result (λ replica. (state : State) × OpensToNode bytes.now state
-        × OpensToNode replica.disk.bytes.items state
+        × OpensToNode replica.disk.bytes state
         × StandsForFile state replica.core (λ b. restarted_node b state)) }
     ensures serves { IfOk result (λ replica. replica.stopped ≡ None) }
 {
@@ -69,7 +70,7 @@ fn open_node(alloc: Global, bytes: &[u8]) -> Result<Replica<SureDisk, StoreBook>
 /// A node of a world that serves from a file on a disk in memory, which never fails.
 #[derive(Drop)]
 pub struct FileNode {
-    replica: Replica<SureDisk, StoreBook>,
+    replica: Replica<BytesDisk, StoreBook>,
 }
 
 impl Model for FileNode {
@@ -108,7 +109,7 @@ impl FileNode {
     fn restart(&mut self) -> Result<Done<StoreBook>, Refusal<StoreBook>>
         // It is the node that the file gives.
         ensures again { IfOk result (λ done. (state : State) →
-            opened self.old.disk.bytes.items ≡ Ok state →
+            opened self.old.disk.bytes ≡ Ok state →
             StandsForFile state self.new.core (λ b. restarted_node b state)) }
         ensures steps { IfOk result (λ done.
             Steps StandsOverFile (λ b x n. restart b n) self.old done self.new) }
@@ -118,7 +119,7 @@ impl FileNode {
     {
         a_stop_forgets_nothing(&self.replica, &NodeEvent::Advance);
         let alloc = self.replica.core().alloc;
-        let replica = match open_node(alloc, &self.replica.disk().bytes) {
+        let replica = match open_node(alloc, self.replica.disk().bytes()) {
             Ok(replica) => replica,
             Err(_) => return Err(Refusal::NoMemory),
         };

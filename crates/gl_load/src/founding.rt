@@ -12,7 +12,7 @@ ghost use Rattle.gl_load.specs.Founding.{load_settings};
 use gl_base::{Bytes, Sequence};
 use gl_hss::{LmsKey, Types};
 use gl_requests::{Genesis, NewNode, ServiceState};
-use gl_world::{Founding, Settings, node_seed, service_key};
+use gl_world::{Founding, ServiceKeys, Settings, node_seed, service_key};
 use std::alloc::{AllocError, Global};
 
 /// The settings of a schedule with one node, one member and an open service.
@@ -78,7 +78,8 @@ fn schedule_genesis(alloc: Global, settings: &Settings) -> Result<Genesis, Alloc
     requires { IsGroup settings.now }
     ensures { IfOk result (λ genesis. genesis ≡ genesis_of settings.now) }
 {
-    let founding = Founding::make(alloc, settings)?;
+    let keys = ServiceKeys::make(alloc, settings)?;
+    let founding = Founding::make(alloc, settings, keys)?;
     Ok(founding.genesis)
 }
 

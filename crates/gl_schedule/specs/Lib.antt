@@ -6,3 +6,4 @@ pub mod Moments
 pub mod Playable
 pub mod Playing
 pub mod Play
+pub mod Keyed

@@ -4,6 +4,7 @@
 #![tactic(auto)]
 
 mod event_line;
+mod keyed_schedule;
 mod line_request;
 mod machine;
 mod numbers;
@@ -13,5 +14,6 @@ mod proposals;
 mod schedule;
 mod text;
 
+pub use keyed_schedule::KeyedSchedule;
 pub use player::play;
 pub use schedule::{Schedule, read};

@@ -6,6 +6,7 @@ ghost use Rattle.gl_world.specs.Founding.{node_ids};
 ghost use Rattle.gl_world.specs.Group.{IsGroup};
 ghost use Rattle.gl_world.specs.Happened.{answer_to, with_event};
 ghost use Rattle.gl_world.specs.Held.{may_happen, world_now};
+ghost use Rattle.gl_world.specs.Keys.{private_key, service_seed};
 ghost use Rattle.gl_lines.specs.Kept.{IsFit};
 ghost use Rattle.gl_schedule.specs.Play.{IsIn, Prints, PrintsAnywhere, event_effect, event_in};
 ghost use Rattle.gl_schedule.specs.Text.{outcome_text};
@@ -19,7 +20,7 @@ use crate::text::{put_sent, put_unnamed};
 use gl_entry::NodeId;
 use gl_hss::{HssPublic, Levels, LmsKey};
 use gl_lines::Line;
-use gl_world::{Event, Members, Settings, World, WorldNode, service_key};
+use gl_world::{Event, Members, Settings, World, WorldNode};
 use std::alloc::{AllocError, Global};
 use std::marker::Model;
 
@@ -77,14 +78,19 @@ fn ids_in<N: WorldNode>(
 }
 
 impl<N: WorldNode> Machine<N> {
-    /// The service as it begins, with its nodes.
-    pub fn begin(alloc: Global, settings: Settings, nodes: Vec<N>) -> Result<Self, AllocError>
+    /// The service as it begins, with its key and its nodes.
+    pub fn begin(
+        alloc: Global,
+        settings: Settings,
+        service: LmsKey,
+        nodes: Vec<N>,
+    ) -> Result<Self, AllocError>
         requires group { IsGroup settings }
+        requires service { service ≡ private_key (service_seed settings) }
         requires nodes { AreAtStart N.stands settings nodes.items }
         ensures settings { IfOk result (λ machine. machine.world.settings ≡ settings) }
         ensures is_in { IfOk result (λ machine. IsIn (printed_at_start settings) machine) }
     {
-        let service = service_key(alloc, &settings)?;
         let members = Members::new(alloc, settings, service.hss_public(Levels::Two))?;
         let world = World::new(alloc, settings, nodes)?;
         let ids = ids_in(alloc, &world, &settings)?;

@@ -7,12 +7,14 @@ ghost use Rattle.gl_outside.specs.Sink.{AppendsPrefix};
 ghost use Rattle.std.specs.List.{AllByRecursion};
 ghost use Rattle.gl_world.specs.AtStart.{AreAtStart};
 ghost use Rattle.gl_world.specs.Group.{IsGroup};
+ghost use Rattle.gl_world.specs.Keys.{private_key, service_seed};
 ghost use Rattle.gl_lines.specs.Kept.{IsFit};
 ghost use Rattle.gl_schedule.specs.Play.{Extends, ExtendsPrefix, GoesOn, IsIn};
 ghost use Rattle.gl_schedule.specs.Output.{Output, output_of, reported};
 
 use crate::machine::Machine;
 use crate::text::put_number;
+use gl_hss::LmsKey;
 use gl_lines::{Line, Lines};
 use gl_outside::{Sink, SinkFault, write_whole};
 use gl_world::{Settings, WorldNode};
@@ -65,16 +67,18 @@ fn play_line<N: WorldNode, K: Sink>(
     }
 }
 
-/// Plays a schedule over the nodes of its service: its own line first, and then one for each line
-/// after it.
+/// Plays a schedule over the key and the nodes of its service: its own line first, and then one for
+/// each line after it.
 pub fn play<N: WorldNode, K: Sink>(
     alloc: Global,
     settings: Settings,
+    service: LmsKey,
     lines: Lines,
     nodes: Vec<N>,
     sink: &mut K,
 ) -> Result<(), SinkFault>
     requires group { IsGroup settings }
+    requires service { service ≡ private_key (service_seed settings) }
     requires fit { AllByRecursion IsFit lines }
     requires nodes { AreAtStart N.stands settings nodes.items }
     ensures whole { OnOk result
@@ -84,7 +88,7 @@ pub fn play<N: WorldNode, K: Sink>(
     ensures failed { result ≡ Err SinkFault.Failed → Rose (K.faults sink.old) (K.faults sink.new) }
     ensures never_falls { K.faults sink.old ≤ K.faults sink.new }
 {
-    let mut machine = match Machine::begin(alloc, settings, nodes) {
+    let mut machine = match Machine::begin(alloc, settings, service, nodes) {
         Ok(machine) => machine,
         Err(_) => return Err(SinkFault::NoMemory),
     };

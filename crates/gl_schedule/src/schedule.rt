@@ -3,16 +3,19 @@
 ghost use Rattle.std.specs.Prelude.{◌≡◌, IfOk};
 ghost use Rattle.std.specs.List.{list_any};
 ghost use Rattle.gl_base.specs.Bytes.{same_bytes};
+ghost use Rattle.gl_lines.specs.Worlds.{IsWithinLimits};
 ghost use Rattle.gl_world.specs.Founding.{node_ids};
+ghost use Rattle.gl_world.specs.Keyed.{HasKeysOf};
 ghost use Rattle.gl_base.specs.Answers.{Answers};
 ghost use Rattle.gl_schedule.specs.Playable.{IsPlayable};
 ghost use Rattle.gl_schedule.specs.Schedules.{are_apart, reads, service_of, settings_of};
 
+use crate::keyed_schedule::KeyedSchedule;
 use gl_base::OrNoMemory;
 use gl_entry::NodeId;
 use gl_lines::{Lines, ScheduleFault, WorldLine, read_first_line, read_lines};
 use gl_requests::ServiceState;
-use gl_world::{Settings, has_distinct_keys, node_ids};
+use gl_world::{ServiceKeys, Settings, has_distinct_keys};
 use std::alloc::Global;
 
 /// A schedule. One of no bytes has no service.
@@ -54,19 +57,22 @@ fn are_apart(ids: &[NodeId]) -> bool
     }
 }
 
-/// The service that a first line begins, and the identifiers of its nodes. A seed that gives two
-/// members one key, or two nodes one identifier, begins none.
+/// The service that a first line begins, its keys, and the identifiers of its nodes. A seed that
+/// gives two members one key, or two nodes one identifier, begins none.
 fn service_of(
     alloc: Global,
     world: &WorldLine,
-) -> Result<(Settings, Vec<NodeId>), OrNoMemory<ScheduleFault>>
+) -> Result<(Settings, ServiceKeys, Vec<NodeId>), OrNoMemory<ScheduleFault>>
+    requires { IsWithinLimits world.now }
     ensures gives { Answers (λ service. service.0) result (service_of world.now) }
-    ensures ids { IfOk result (λ service. service.1.items ≡ node_ids service.0) }
+    ensures keys { IfOk result (λ service. HasKeysOf service.0 service.1) }
+    ensures ids { IfOk result (λ service. service.2.items ≡ node_ids service.0) }
 {
     let settings = settings_of(world);
-    let ids = node_ids(alloc, &settings)?;
+    let keys = ServiceKeys::make(alloc, &settings)?;
+    let ids = keys.node_ids(alloc, &settings)?;
     if has_distinct_keys(alloc, &settings)? && are_apart(&ids) {
-        Ok((settings, ids))
+        Ok((settings, keys, ids))
     } else {
         Err(OrNoMemory::Fault(ScheduleFault::BadLine(1)))
     }
@@ -74,15 +80,15 @@ fn service_of(
 
 /// The schedule that a text is, or else the first of its lines that says nothing.
 #[tactic(auto, unfolding(crate::specs::Schedules::reads))]
-pub fn read(alloc: Global, text: &[u8]) -> Result<Schedule, OrNoMemory<ScheduleFault>>
+pub fn read(alloc: Global, text: &[u8]) -> Result<KeyedSchedule, OrNoMemory<ScheduleFault>>
     ensures gives { Answers (λ schedule. schedule) result (reads text.now) }
     ensures playable { IfOk result (λ schedule. IsPlayable schedule) }
 {
     if text.is_empty() {
-        return Ok(Schedule::Empty);
+        return Ok(KeyedSchedule::empty());
     }
     let (world, after) = read_first_line(alloc, text)?;
-    let (settings, ids) = service_of(alloc, &world)?;
+    let (settings, keys, ids) = service_of(alloc, &world)?;
     let lines = read_lines(alloc, after, &ids)?;
-    Ok(Schedule::Service(settings, lines))
+    Ok(KeyedSchedule::service(settings, lines, keys))
 }

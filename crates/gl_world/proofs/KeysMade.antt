@@ -1,12 +1,14 @@
 -- The keys of a service's nodes, one more each time; and the nodes that a genesis names with them.
 use Rattle.std.proofs.Common.{◌≡◌, ◌+◌, ℕ, zero, suc, List, [], ◌∷◌, ◌++◌, length, Some, slice_get, sym, ap, ap₂, subst, ◌∙◌, arith}
 use Rattle.std.proofs.lemmas.List.{length-append}
+use Rattle.sha2.specs.Sha256.{sha256}
 use Rattle.gl_hss.specs.Tree.{key_bytes}
 use Rattle.gl_hss.specs.Secrets.{PrivateKey, public_of}
+use Rattle.gl_rules.specs.Identity.{NodeId}
 use Rattle.gl_requests.specs.declared.genesis.NewNode.{NewNode}
 use Rattle.gl_world.specs.declared.settings.Settings.{Settings}
 use Rattle.gl_world.specs.declared.node_key.NodeKey.{NodeKey}
-use Rattle.gl_world.specs.Founding.{node_of}
+use Rattle.gl_world.specs.Founding.{id_of, node_of}
 use Rattle.gl_world.specs.Keyed.{AreKeysOf, IsKeyOf}
 
 -- an element of a list with one more is of the list, or the last one
@@ -34,3 +36,10 @@ node_is s count ks i k made are at is =
     let keyed = are.each i k at in
     is ∙ ap₂ (λ (p : PrivateKey) (e : List ℕ). record { key = key_bytes (public_of p); endorsement = e }) keyed.key keyed.endorsement
     ∙ ap (node_of s) (let next : suc i ≡ i + 1 = omega arith in next)
+
+-- and the identifier that it gives
+pub id_is : (s : Settings) (count : ℕ) (ks : List NodeKey) (i : ℕ) (k : NodeKey) (id : NodeId) → AreKeysOf s count ks → slice_get ks i ≡ Some k →
+    id ≡ sha256 (key_bytes (public_of k.key)) → id ≡ id_of s (i + 1)
+id_is s count ks i k id are at is =
+    is ∙ ap (λ (p : PrivateKey). sha256 (key_bytes (public_of p))) (are.each i k at).key
+    ∙ ap (id_of s) (let next : suc i ≡ i + 1 = omega arith in next)

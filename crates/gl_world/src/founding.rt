@@ -6,14 +6,15 @@ ghost use Rattle.gl_requests.specs.Ranges.{is_genesis};
 ghost use Rattle.gl_gov_rules.specs.Actions.{has_key};
 ghost use Rattle.gl_world.specs.Founding.{member_of, members_from, genesis_of, has_distinct_keys};
 ghost use Rattle.gl_world.specs.Group.{IsGroup};
-ghost use Rattle.gl_world.specs.Keyed.{AreKeysOf};
+ghost use Rattle.gl_world.specs.Keyed.{AreKeysOf, HasKeysOf};
 
 use crate::dealing::dealing;
-use crate::keys::{hss_key, member_seed, service_key};
-use crate::node_key::{NodeKey, new_nodes, node_keys};
+use crate::keys::{hss_key, member_seed};
+use crate::node_key::{NodeKey, new_nodes};
+use crate::service_keys::ServiceKeys;
 use crate::settings::Settings;
 use gl_base::Sequence;
-use gl_hss::{HssPublic, Levels, identifier_of};
+use gl_hss::{HssPublic, Levels, LmsKey, identifier_of};
 use gl_requests::{Genesis, HssPublicKey, NewMember, NewNode};
 use std::alloc::{AllocError, Global};
 
@@ -111,30 +112,43 @@ fn genesis(
     })
 }
 
-/// What a service begins with. Making it grows the tree of each key once.
+/// What a service begins with. Making it grows the tree of each member's key.
 #[derive(Drop)]
 pub struct Founding {
     /// The request that founds the service.
     pub genesis: Genesis,
     /// The keys of the nodes that start and of those that join, in the order of their numbers.
     pub keys: Vec<NodeKey>,
+    /// The service's key.
+    pub service: LmsKey,
 }
 
 impl Founding {
-    /// Founds a service of such settings. The genesis fits its format.
-    pub fn make(alloc: Global, settings: &Settings) -> Result<Founding, AllocError>
-        requires { IsGroup settings.now }
+    /// Founds a service of such settings, which has these keys. The genesis fits its format.
+    pub fn make(
+        alloc: Global,
+        settings: &Settings,
+        keys: ServiceKeys,
+    ) -> Result<Founding, AllocError>
+        requires group { IsGroup settings.now }
+        requires keys { HasKeysOf settings.now keys }
         ensures genesis { IfOk result (λ f. f.genesis ≡ genesis_of settings.now) }
         ensures keys { IfOk result (λ f. AreKeysOf settings.now
             (settings.now.starting + settings.now.joiners) f.keys.items) }
+        ensures service { IfOk result (λ f. f.service ≡ keys.service) }
         ensures fits { IfOk result (λ f. is_genesis f.genesis ≡ true) }
     {
-        let service = service_key(alloc, settings)?;
-        let count = settings.starting + settings.joiners;
-        let keys = node_keys(alloc, settings, &service, count)?;
+        let ServiceKeys {
+            service,
+            nodes: keys,
+        } = keys;
         let nodes = new_nodes(alloc, settings, &keys, settings.starting)?;
         let identity = service.hss_public(Levels::Two);
         let genesis = genesis(alloc, settings, identity, nodes)?;
-        Ok(Founding { genesis, keys })
+        Ok(Founding {
+            genesis,
+            keys,
+            service,
+        })
     }
 }

@@ -25,7 +25,7 @@ pub(crate) fn word_digest(word: &[u8], seed: &[u8]) -> Digest
 
 /// The digest of a word, a number and a seed.
 #[tactic(auto, unfolding(gl_base::specs::LittleEndian::little_endian))]
-pub(crate) fn numbered_digest(word: &[u8], number: u32, seed: &[u8]) -> Digest
+fn numbered_digest(word: &[u8], number: u32, seed: &[u8]) -> Digest
     ensures { result ≡ sha256 (word.now ++ little_endian 4 number ++ seed.now) }
 {
     let mut hasher = Sha256::new();

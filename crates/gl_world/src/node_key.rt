@@ -1,17 +1,20 @@
 //! The keys of a service's nodes.
 
-ghost use Rattle.std.specs.Prelude.{◌≡◌, ◌≤◌, ℕ, length, map, IfOk};
+ghost use Rattle.std.specs.Prelude.{◌≡◌, ◌≤◌, ◌+◌, ℕ, length, map, IfOk};
+ghost use Rattle.sha2.specs.Sha256.{sha256};
 ghost use Rattle.gl_hss.specs.Secrets.{public_of};
 ghost use Rattle.gl_hss.specs.Tree.{key_bytes};
-ghost use Rattle.gl_world.specs.Founding.{node_of, numbers_from};
+ghost use Rattle.gl_world.specs.Founding.{node_ids, node_of, numbers_from};
 ghost use Rattle.gl_world.specs.Keyed.{AreKeysOf, IsKeyOf};
 ghost use Rattle.gl_world.specs.Keys.{private_key, service_seed};
 
 use crate::keys::{node_seed, private_key};
 use crate::settings::Settings;
 use gl_base::{Bytes, Sequence};
+use gl_entry::NodeId;
 use gl_hss::LmsKey;
 use gl_requests::NewNode;
+use sha2::{Digest, Sha256};
 use std::alloc::{AllocError, Global};
 
 /// The key of a node, and the service's endorsement of it.
@@ -37,6 +40,13 @@ impl NodeKey {
         let key = private_key(alloc, &node_seed(settings, number))?;
         let endorsement = service.sign_leaf(u32::from(number - 1), &key.public())?;
         Ok(NodeKey { key, endorsement })
+    }
+
+    /// The identifier of the node.
+    fn id(&self) -> NodeId
+        ensures { result ≡ sha256 (key_bytes (public_of self.now.key)) }
+    {
+        Sha256::digest(&self.key.public())
     }
 
     /// The node as a genesis names it.
@@ -69,6 +79,22 @@ pub(crate) fn node_keys(
         keys.push(NodeKey::make(alloc, settings, service, i + 1)?)?;
     }
     Ok(keys)
+}
+
+/// The identifiers of the nodes with these keys.
+pub(crate) fn node_ids(
+    alloc: Global,
+    settings: &Settings,
+    keys: &[NodeKey],
+) -> Result<Vec<NodeId>, AllocError>
+    requires { AreKeysOf settings.now (settings.now.starting + settings.now.joiners) keys.now }
+    ensures { IfOk result (λ ids. ids.items ≡ node_ids settings.now) }
+{
+    let mut ids = Vec::new(alloc);
+    for i in 0..usize::from(settings.starting) + usize::from(settings.joiners) {
+        ids.push(keys[i].id())?;
+    }
+    Ok(ids)
 }
 
 /// The first so many nodes, as a genesis names them.

@@ -3,12 +3,13 @@
 ghost use Rattle.std.specs.Prelude.{◌≡◌, ◌+◌, length, IfOk, OnOk};
 ghost use Rattle.gl_world.specs.AtStart.{StandAtStart};
 ghost use Rattle.gl_world.specs.Group.{IsGroup};
-ghost use Rattle.gl_world.specs.Keyed.{AreKeysOf, IsKeyOf};
+ghost use Rattle.gl_world.specs.Keyed.{AreKeysOf, HasKeysOf, IsKeyOf};
 ghost use Rattle.ccfg.specs.OpeningStores.{HaveOpened};
 ghost use Rattle.gl_store_book.specs.Stands.{Stands};
 
+use gl_hss::LmsKey;
 use gl_store_book::StoreBook;
-use gl_world::{Founding, NodeKey, Settings};
+use gl_world::{Founding, NodeKey, ServiceKeys, Settings};
 use sha2::{Digest, Sha256};
 use std::alloc::{AllocError, Global};
 
@@ -48,18 +49,24 @@ fn joining_books(
 }
 
 /// The stores with which the nodes of a service begin, in the order of their numbers: those of
-/// nodes that start have the opening ledger, and those of nodes that join have no entry. It grows
-/// the key of each node and member. Fails only where memory runs out.
-pub(crate) fn books(alloc: Global, settings: &Settings) -> Result<Vec<StoreBook>, AllocError>
-    requires { IsGroup settings.now }
-    ensures { IfOk result (λ books. StandAtStart Stands settings.now books.items) }
+/// nodes that start have the opening ledger, and those of nodes that join have no entry. Gives the
+/// service's key back. It grows the key of each member. Fails only where memory runs out.
+pub(crate) fn books(
+    alloc: Global,
+    settings: &Settings,
+    keys: ServiceKeys,
+) -> Result<(Vec<StoreBook>, LmsKey), AllocError>
+    requires group { IsGroup settings.now }
+    requires keys { HasKeysOf settings.now keys }
+    ensures books { IfOk result (λ made. StandAtStart Stands settings.now made.0.items) }
+    ensures service { IfOk result (λ made. made.1 ≡ keys.service) }
 {
-    let founding = Founding::make(alloc, settings)?;
+    let founding = Founding::make(alloc, settings, keys)?;
     let mut books = joining_books(alloc, settings, founding.keys)?;
     books[0].open(founding.genesis)?;
     for i in 1..settings.starting {
         let opened = books[0].ledger.copy()?;
         books[usize::from(i)].ledger = opened;
     }
-    Ok(books)
+    Ok((books, founding.service))
 }

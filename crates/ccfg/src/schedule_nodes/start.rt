@@ -12,22 +12,24 @@ ghost use Rattle.gl_rules.specs.World.{node_at_start};
 ghost use Rattle.gl_world.specs.AtStart.{AreAtStart, held_at_start};
 ghost use Rattle.gl_world.specs.Founding.{id_of};
 ghost use Rattle.gl_world.specs.Group.{IsGroup, book_of};
+ghost use Rattle.gl_world.specs.Keyed.{HasKeysOf};
+ghost use Rattle.gl_world.specs.Keys.{private_key, service_seed};
 ghost use Rattle.gl_world.specs.World.{start_of};
 ghost use Rattle.ccfg.specs.FileNodes.{IsMemoryFile, SeenFileNode, StandsOverFile};
 ghost use Rattle.gl_store_book.specs.Stands.{Stands};
 ghost use Rattle.gl_store_book.specs.ViewVotes.{view_vote_records};
 
+use crate::schedule_nodes::disk::BytesDisk;
 use crate::schedule_nodes::opening_stores::books;
 use crate::schedule_nodes::{FileNode, only_memory};
 use gl_config::NodeId;
 use gl_entry::Entry;
-use gl_hss::Types;
+use gl_hss::{LmsKey, Types};
 use gl_journal::{Journal, Key, KeyKind, Record};
 use gl_node::Replica;
-use gl_outside::SureDisk;
 use gl_replication::{Book, Core};
 use gl_store_book::{StoreBook, ViewVote, keep_opening};
-use gl_world::{Settings, core_at_start, node_seed};
+use gl_world::{ServiceKeys, Settings, core_at_start, node_seed};
 use std::alloc::{AllocError, Global};
 
 /// The frames of entries, one after the other.
@@ -43,10 +45,10 @@ fn frames_of(alloc: Global, entries: &[Entry]) -> Result<Vec<u8>, AllocError>
 }
 
 /// A file in memory with this key. Fails only where memory runs out.
-fn create(alloc: Global, key: Key) -> Result<Journal<SureDisk>, AllocError>
+fn create(alloc: Global, key: Key) -> Result<Journal<BytesDisk>, AllocError>
     ensures { IfOk result (λ journal. IsMemoryFile journal (key_alone key)) }
 {
-    match Journal::create(alloc, SureDisk::new(alloc), key) {
+    match Journal::create(alloc, BytesDisk::new(alloc), key) {
         Ok(journal) => Ok(journal),
         Err((error, _)) => Err(only_memory(error)),
     }
@@ -54,7 +56,7 @@ fn create(alloc: Global, key: Key) -> Result<Journal<SureDisk>, AllocError>
 
 /// The file keeps how many leaves are reserved. Fails only where memory runs out.
 #[tactic(auto, unfolding(gl_base::specs::LittleEndian::little_endian))]
-fn keep_leaves(journal: &mut Journal<SureDisk>, reserved: u32) -> Result<(), AllocError>
+fn keep_leaves(journal: &mut Journal<BytesDisk>, reserved: u32) -> Result<(), AllocError>
     requires { (state : State) × IsMemoryFile journal.old state }
     ensures { (state : State) → IsMemoryFile journal.old state → state.reserved ≤ reserved →
         reserved ≤ leaf_count state →
@@ -108,7 +110,7 @@ fn entries_of(book: &StoreBook) -> &[Entry]
 /// out.
 fn keep_node(
     alloc: Global,
-    journal: &mut Journal<SureDisk>,
+    journal: &mut Journal<BytesDisk>,
     core: &Core<StoreBook>,
 ) -> Result<(), AllocError>
     requires open { (state : State) × IsMemoryFile journal.old state }
@@ -192,17 +194,23 @@ fn add_node(
 }
 
 /// The nodes with which a service begins, in the order of their numbers, each over a file that
-/// keeps it: those that start have the opening ledger, and those that join have no entry. It grows
-/// the key of each node and member. Fails only where memory runs out.
-pub fn nodes(alloc: Global, settings: &Settings) -> Result<Vec<FileNode>, AllocError>
-    requires { IsGroup settings.now }
-    ensures { IfOk result (λ nodes. AreAtStart StandsOverFile settings.now nodes.items) }
+/// keeps it: those that start have the opening ledger, and those that join have no entry. Gives the
+/// service's key back. It grows the key of each member. Fails only where memory runs out.
+pub fn nodes(
+    alloc: Global,
+    settings: &Settings,
+    keys: ServiceKeys,
+) -> Result<(Vec<FileNode>, LmsKey), AllocError>
+    requires group { IsGroup settings.now }
+    requires keys { HasKeysOf settings.now keys }
+    ensures nodes { IfOk result (λ made. AreAtStart StandsOverFile settings.now made.0.items) }
+    ensures service { IfOk result (λ made. made.1 ≡ private_key (service_seed settings.now)) }
 {
-    let books = books(alloc, settings)?;
+    let (books, service) = books(alloc, settings, keys)?;
     let first = books[0].me();
     let mut nodes = Vec::new(alloc);
     for book in books {
         add_node(alloc, settings, first, &mut nodes, book)?;
     }
-    Ok(nodes)
+    Ok((nodes, service))
 }

@@ -1,5 +1,5 @@
 use Rattle.std.proofs.Common.{ap, ◌∙◌}
-use Rattle.gl_outside.specs.declared.sure_disk.SureDisk.{SureDisk}
+use Rattle.ccfg.specs.Disk.{HeldDisk}
 use Rattle.gl_store_book.specs.NodeFile.{opened}
 use Rattle.ccfg.proofs.schedule_nodes.open_node.Goals as goal
 
@@ -9,6 +9,6 @@ returns-in-Ok-clause-opens c =
     let there = c.in_ok-open_file.ensures in (
       file.state,
       there.0,
-      record { opens = ap (λ (d : SureDisk). opened d.bytes.items) c.in-Ok.ensures.same ∙ there.1.opens; kind = there.1.kind },
+      record { opens = ap (λ (d : HeldDisk). opened d.bytes) c.in-Ok.ensures.same ∙ there.1.opens; kind = there.1.kind },
       c.in-Ok.ensures.stands,
     )

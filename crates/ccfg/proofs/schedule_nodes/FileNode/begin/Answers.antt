@@ -61,6 +61,6 @@ returns c =
     let file = subst (λ (seed : List ℕ). IsMemoryFile c.keep_node.new.journal (state_with seed c.args.core)) c.node_seed.ensures kept in
     subst (λ (f : SeenFileNode). StandsOverFile f (book_of s) x (node_at_start (start_of s) x)) (sym c.new.ensures) (record {
       core = c.requires.core;
-      file = file_kept c.keep_node.new.journal.gated.disk.bytes.items (state_at_start s c.args.number c.args.core) (book_of s) x (file.opens refl)
+      file = file_kept c.keep_node.new.journal.gated.disk.bytes (state_at_start s c.args.number c.args.core) (book_of s) x (file.opens refl)
           (file_at_start s c.requires.group c.args.number c.requires.low c.requires.high c.args.core);
     })

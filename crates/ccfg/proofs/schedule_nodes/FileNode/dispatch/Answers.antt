@@ -1,5 +1,4 @@
 use Rattle.std.proofs.Common.{◌≡◌, refl, subst}
-use Rattle.gl_outside.specs.SureDisk.{disk_past}
 use Rattle.gl_replication.specs.Events.{rule_of}
 use Rattle.gl_replication.specs.Stands as node_status
 use Rattle.gl_world.specs.WorldNodes.{KeepsAll, Refuses, Steps}
@@ -21,7 +20,7 @@ invariant_of-self-in-Err-Refused c =
     let r = c.in-Err-Refused in
     let old = c.self.inside.replica in
     let new = c.event.new.self in
-    let same = on_refused c.event.result r.field-0 r.why r.is r.field-0-is (λ why. (new.disk.bytes.items ≡ old.disk.bytes.items) × (disk_past new.disk ≡ disk_past old.disk)) (c.event.ensures.same refl) in
+    let same = on_refused c.event.result r.field-0 r.why r.is r.field-0-is (λ why. (new.disk.bytes ≡ old.disk.bytes) × (new.disk.past ≡ old.disk.past)) (c.event.ensures.same refl) in
     refuses_on old new c.self.invariant same.0 (c.event.ensures.no_disk_fault (no_fault c.event.result r.field-0 r.why r.is r.field-0-is)).1
 
 pub returns-in-Ok-clause-steps : goal.returns-in-Ok-clause-steps
@@ -41,6 +40,6 @@ returns-in-Err-Refused-clause-err c =
     let r = c.in-Err-Refused in
     let old = c.self.inside.replica in
     let new = c.event.new.self in
-    let same = on_refused c.event.result r.field-0 r.why r.is r.field-0-is (λ why. (new.disk.bytes.items ≡ old.disk.bytes.items) × (disk_past new.disk ≡ disk_past old.disk)) (c.event.ensures.same refl) in
+    let same = on_refused c.event.result r.field-0 r.why r.is r.field-0-is (λ why. (new.disk.bytes ≡ old.disk.bytes) × (new.disk.past ≡ old.disk.past)) (c.event.ensures.same refl) in
     let stays = on_refused c.event.result r.field-0 r.why r.is r.field-0-is (λ why. node_status.KeepsAll Stands old.core new.core) c.event.ensures.stays in
     subst (λ (f : SeenFileNode). KeepsAll StandsOverFile f new) c.self.view_is (keeps_over old new same.0 stays)

@@ -12,30 +12,30 @@ use Rattle.ccfg.proofs.schedule_nodes.opening_stores.books.Goals as goal
 pub open-requires-clause-founds : goal.open-requires-clause-founds
 open-requires-clause-founds c =
     let s = c.args.settings.now in
-    let some : 0 < length c.in_ok-books.books.items = omega (arith, c.in_ok-books.ensures.len, c.in_ok-founding.ensures.keys.counted, c.requires.first) in
+    let some : 0 < length c.in_ok-books.books.items = omega (arith, c.in_ok-books.ensures.len, c.in_ok-founding.ensures.keys.counted, c.requires.group.first) in
     let is = (c.in_ok-books.ensures.joining 0 c.index_mut.result.now (slice_get_read c.in_ok-books.books.items _ 0 _ refl some c.index_mut.ensures.value)).0 in (
       keys_of s,
-      has_key s c.requires 1 (omega arith) (omega (arith, c.requires.first)) c.index_mut.result.now is,
-      first_founds s c.requires _ _ c.in_ok-founding.ensures.genesis is.named,
+      has_key s c.requires.group 1 (omega arith) (omega (arith, c.requires.group.first)) c.index_mut.result.now is,
+      first_founds s c.requires.group _ _ c.in_ok-founding.ensures.genesis is.named,
     )
 
 pub open-requires-clause-empty : goal.open-requires-clause-empty
 open-requires-clause-empty c =
-    let some : 0 < length c.in_ok-books.books.items = omega (arith, c.in_ok-books.ensures.len, c.in_ok-founding.ensures.keys.counted, c.requires.first) in
+    let some : 0 < length c.in_ok-books.books.items = omega (arith, c.in_ok-books.ensures.len, c.in_ok-founding.ensures.keys.counted, c.requires.group.first) in
     (c.in_ok-books.ensures.joining 0 c.index_mut.result.now (slice_get_read c.in_ok-books.books.items _ 0 _ refl some c.index_mut.ensures.value)).1
 
 pub loop-i-init : goal.loop-i-init
 loop-i-init c =
     let s = c.args.settings.now in
-    let some : 0 < length c.in_ok-books.books.items = omega (arith, c.in_ok-books.ensures.len, c.in_ok-founding.ensures.keys.counted, c.requires.first) in
+    let some : 0 < length c.in_ok-books.books.items = omega (arith, c.in_ok-books.ensures.len, c.in_ok-founding.ensures.keys.counted, c.requires.group.first) in
     let is = (c.in_ok-books.ensures.joining 0 c.index_mut.result.now (slice_get_read c.in_ok-books.books.items _ 0 _ refl some c.index_mut.ensures.value)).0 in
-    let opened = c.in_ok-open.ensures (keys_of s) (has_key s c.requires 1 (omega arith) (omega (arith, c.requires.first)) c.index_mut.result.now is) in (
+    let opened = c.in_ok-open.ensures (keys_of s) (has_key s c.requires.group 1 (omega arith) (omega (arith, c.requires.group.first)) c.index_mut.result.now is) in (
       one_opened s 0 c.in_ok-books.books.items c.open.new.self c.in_ok-books.ensures.joining
           (record { named = ap (λ (n : NodeStore). n.me) opened ∙ is.named; key = ap (λ (n : NodeStore). n.key) opened ∙ is.key })
           (ap (λ (n : NodeStore). n.ledger) opened ∙ ap₂ (opening_of (keys_of s)) c.in_ok-founding.ensures.genesis is.named),
       length-set c.in_ok-books.books.items 0 c.open.new.self ∙ c.in_ok-books.ensures.len ∙ c.in_ok-founding.ensures.keys.counted,
       omega arith,
-      c.requires.first,
+      c.requires.group.first,
     )
 
 pub loop-i-preserved : goal.loop-i-preserved
@@ -66,10 +66,10 @@ loop-i-preserved c =
       omega (arith, in_time),
     )
 
-pub returns : goal.returns
-returns c =
+pub returns-clause-books : goal.returns-clause-books
+returns-clause-books c =
     let s = c.args.settings.now in
     let inv = c.loop-i.invariant in
     let over = c.loop-i-test.false in
     let all : c.loop-i.i ≡ s.starting = omega (arith, over, inv.3) in
-    stand_at_start s c.requires c.loop-i.books.items inv.1 (subst (λ (n : ℕ). HaveOpened s n c.loop-i.books.items) all inv.0)
+    stand_at_start s c.requires.group c.loop-i.books.items inv.1 (subst (λ (n : ℕ). HaveOpened s n c.loop-i.books.items) all inv.0)

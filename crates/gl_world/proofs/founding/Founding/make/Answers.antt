@@ -5,4 +5,4 @@ use Rattle.gl_world.proofs.Acceptable.{group_fits}
 use Rattle.gl_world.proofs.founding.Founding.make.Goals as goal
 
 pub returns-clause-fits : goal.returns-clause-fits
-returns-clause-fits c = subst (λ (g : request.Genesis). is_genesis g ≡ true) (sym c.in_ok-genesis.ensures) (group_fits c.args.settings.now c.requires)
+returns-clause-fits c = subst (λ (g : request.Genesis). is_genesis g ≡ true) (sym c.in_ok-genesis.ensures) (group_fits c.args.settings.now c.requires.group)

@@ -1,6 +1,6 @@
 use Rattle.std.proofs.Common.{◌≡◌, ◌+◌, ◌-◌, ◌++◌, suc, map}
 use Rattle.gl_world.specs.Founding.{numbers_from, id_of, node_ids}
-use Rattle.gl_world.proofs.nodes.node_ids.Given as goal
+use Rattle.gl_world.proofs.node_key.node_ids.Given as goal
 
 -- those made and those left are all
 abbrev pub invariant-loop-i : goal.invariant-loop-i

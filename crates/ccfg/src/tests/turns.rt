@@ -92,6 +92,28 @@ fn is_failed_output(what: InTurn, call: u64, before: &[u8], left: &Left, whole: 
 /// More calls than a run makes of an object.
 const CALLS: u64 = 2000;
 
+/// What a run leaves of which one call fails.
+fn left_with_failing(
+    alloc: Global,
+    run: &Run<'_>,
+    what: InTurn,
+    call: u64,
+    lefts: &[Left],
+) -> Result<Left, AllocError> {
+    let failing = [call];
+    play(alloc, &with_failing(run, what, &failing), lefts)
+}
+
+/// Whether a run with one failing call didn't come to the expected output, which is that of the
+/// whole run where no call failed.
+fn is_unexpected(what: InTurn, call: u64, before: &[u8], left: &Left, whole: &Left) -> bool {
+    match left.faults {
+        0 => left.status != whole.status || left.written != whole.written,
+        1 => !is_failed_output(what, call, before, left, whole),
+        _ => true,
+    }
+}
+
 /// Plays a run once for each call that may fail, up to the first that isn't made. Tells at which
 /// call it doesn't come to the expected output.
 pub fn first_unexpected_call(
@@ -102,15 +124,13 @@ pub fn first_unexpected_call(
     lefts: &[Left],
 ) -> Result<Option<u64>, AllocError> {
     let before = bytes_of(alloc, run.disk.unwrap_or(&[]), lefts)?;
-    for number in 1..CALLS {
-        let failing = [number];
-        let left = play(alloc, &with_failing(run, what, &failing), lefts)?;
-        if left.faults == 0 {
-            let is_same = left.status == whole.status && left.written == whole.written;
-            return Ok(if is_same { None } else { Some(number) });
+    for call in 1..CALLS {
+        let left = left_with_failing(alloc, run, what, call, lefts)?;
+        if is_unexpected(what, call, &before, &left, whole) {
+            return Ok(Some(call));
         }
-        if left.faults != 1 || !is_failed_output(what, number, &before, &left, whole) {
-            return Ok(Some(number));
+        if left.faults == 0 {
+            return Ok(None);
         }
     }
     Ok(Some(CALLS))

@@ -3,7 +3,7 @@
 use crate::program::top;
 use crate::tests::Unwatched;
 use crate::tests::part::{Left, Part, bytes_of, framed};
-use crate::tests::run::{Arrival, Run};
+use crate::tests::run::{Arrival, InTurn, Run};
 use gl_outside::{
     Disk, Incoming, MemDisk, MemLink, MemSink, MemSource, OpenGate, SureDisk, SureLink,
 };
@@ -98,17 +98,65 @@ fn incoming_of(alloc: Global, coming: &[Coming]) -> Result<Vec<Incoming<'_>>, Al
     Ok(given)
 }
 
+/// A call that is to fail, alone of its object, from 1.
+#[derive(Clone, Copy, Debug)]
+pub struct Failing {
+    pub what: InTurn,
+    pub call: u64,
+}
+
+/// Its number, or 0, which no call has.
+fn number_of(failing: Option<Failing>) -> u64 {
+    match failing {
+        Some(failing) => failing.call,
+        None => 0,
+    }
+}
+
+fn what_fails(failing: Option<Failing>) -> Option<InTurn> {
+    match failing {
+        Some(failing) => Some(failing.what),
+        None => None,
+    }
+}
+
+fn is_of_source(failing: Option<Failing>) -> bool {
+    matches!(what_fails(failing), Some(InTurn::Reads))
+}
+
+fn is_of_sink(failing: Option<Failing>) -> bool {
+    matches!(what_fails(failing), Some(InTurn::Writes | InTurn::Lines))
+}
+
+fn is_of_link(failing: Option<Failing>) -> bool {
+    matches!(what_fails(failing), Some(InTurn::Nexts))
+}
+
+fn is_of_disk(failing: Option<Failing>) -> bool {
+    matches!(what_fails(failing), Some(InTurn::Disk))
+}
+
+/// The calls of an object that fail: the one, or those of the row.
+fn one_or_row<'a>(is_one: bool, one: &'a [u64], row: &'a [u64]) -> &'a [u64] {
+    if is_one { one } else { row }
+}
+
 /// Calls the program with these objects, and a disk.
 fn call<D: Disk + Drop + Send>(
     alloc: Global,
     run: &Run<'_>,
+    failing: Option<Failing>,
     prepared: &Prepared,
     disk: D,
 ) -> Result<(Left, D), AllocError> {
     let given = incoming_of(alloc, &prepared.coming)?;
-    let mut source = MemSource::new(&prepared.input, run.piece, run.reads);
-    let mut sink = MemSink::new(alloc, run.sink_piece, run.writes);
-    let mut link = MemLink::new(SureLink::new(alloc, &given), run.nexts, run.sends);
+    let one = [number_of(failing)];
+    let reads = one_or_row(is_of_source(failing), &one, run.reads);
+    let writes = one_or_row(is_of_sink(failing), &one, run.writes);
+    let nexts = one_or_row(is_of_link(failing), &one, run.nexts);
+    let mut source = MemSource::new(&prepared.input, run.piece, reads);
+    let mut sink = MemSink::new(alloc, run.sink_piece, writes);
+    let mut link = MemLink::new(SureLink::new(alloc, &given), nexts, run.sends);
     let (status, disk) = top(
         alloc,
         &prepared.words,
@@ -143,21 +191,25 @@ const FIRST_CALLS: &[u64] = &[1, 2, 3, 4, 5, 6, 7, 8];
 fn play_without_disk(
     alloc: Global,
     run: &Run<'_>,
+    failing: Option<Failing>,
     prepared: &Prepared,
 ) -> Result<Left, AllocError> {
     let none = MemDisk::new(SureDisk::new(alloc), FIRST_CALLS);
-    let (left, _disk) = call(alloc, run, prepared, none)?;
+    let (left, _disk) = call(alloc, run, failing, prepared, none)?;
     Ok(left)
 }
 
 fn play_over_disk(
     alloc: Global,
     run: &Run<'_>,
+    failing: Option<Failing>,
     prepared: &Prepared,
     bytes: &[u8],
 ) -> Result<Left, AllocError> {
-    let disk = MemDisk::new(SureDisk::holding(alloc, bytes)?, run.disk_calls);
-    let (mut left, disk) = call(alloc, run, prepared, disk)?;
+    let one = [number_of(failing)];
+    let calls = one_or_row(is_of_disk(failing), &one, run.disk_calls);
+    let disk = MemDisk::new(SureDisk::holding(alloc, bytes)?, calls);
+    let (mut left, disk) = call(alloc, run, failing, prepared, disk)?;
     left.disk_changes = disk.inner.calls.len();
     left.disk = disk.inner.bytes;
     Ok(left)
@@ -165,10 +217,23 @@ fn play_over_disk(
 
 /// Plays a run after earlier ones.
 pub fn play(alloc: Global, run: &Run<'_>, lefts: &[Left]) -> Result<Left, AllocError> {
+    play_failing(alloc, run, None, lefts)
+}
+
+/// Plays a run after earlier ones, where a call is to fail in the place of the row's of its object.
+pub fn play_failing(
+    alloc: Global,
+    run: &Run<'_>,
+    failing: Option<Failing>,
+    lefts: &[Left],
+) -> Result<Left, AllocError> {
     let prepared = prepare(alloc, run, lefts)?;
     let mut left = match run.disk {
-        Some(parts) => play_over_disk(alloc, run, &prepared, &bytes_of(alloc, parts, lefts)?)?,
-        None => play_without_disk(alloc, run, &prepared)?,
+        Some(parts) => {
+            let bytes = bytes_of(alloc, parts, lefts)?;
+            play_over_disk(alloc, run, failing, &prepared, &bytes)?
+        }
+        None => play_without_disk(alloc, run, failing, &prepared)?,
     };
     left.given = prepared.input;
     Ok(left)

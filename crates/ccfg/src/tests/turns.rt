@@ -1,32 +1,10 @@
 //! Runs that are played again: with a call that fails, in turn, and of each prefix of their input.
 
 use crate::tests::part::{Left, bytes_of};
-use crate::tests::play::play;
+use crate::tests::play::{Failing, play, play_failing};
 use crate::tests::run::{InTurn, Run};
 use gl_outside::Traffic;
 use std::alloc::{AllocError, Global};
-
-/// The same run, of which one call fails.
-fn with_failing<'a>(run: &Run<'a>, what: InTurn, failing: &'a [u64]) -> Run<'a> {
-    match what {
-        InTurn::Reads => Run {
-            reads: failing,
-            ..*run
-        },
-        InTurn::Writes | InTurn::Lines => Run {
-            writes: failing,
-            ..*run
-        },
-        InTurn::Disk => Run {
-            disk_calls: failing,
-            ..*run
-        },
-        InTurn::Nexts => Run {
-            nexts: failing,
-            ..*run
-        },
-    }
-}
 
 /// The first so many lines of a text.
 pub fn first_lines(text: &[u8], count: u64) -> &[u8] {
@@ -92,18 +70,6 @@ fn is_failed_output(what: InTurn, call: u64, before: &[u8], left: &Left, whole: 
 /// More calls than a run makes of an object.
 const CALLS: u64 = 2000;
 
-/// What a run leaves of which one call fails.
-fn left_with_failing(
-    alloc: Global,
-    run: &Run<'_>,
-    what: InTurn,
-    call: u64,
-    lefts: &[Left],
-) -> Result<Left, AllocError> {
-    let failing = [call];
-    play(alloc, &with_failing(run, what, &failing), lefts)
-}
-
 /// Whether a run with one failing call didn't come to the expected output, which is that of the
 /// whole run where no call failed.
 fn is_unexpected(what: InTurn, call: u64, before: &[u8], left: &Left, whole: &Left) -> bool {
@@ -125,7 +91,7 @@ pub fn first_unexpected_call(
 ) -> Result<Option<u64>, AllocError> {
     let before = bytes_of(alloc, run.disk.unwrap_or(&[]), lefts)?;
     for call in 1..CALLS {
-        let left = left_with_failing(alloc, run, what, call, lefts)?;
+        let left = play_failing(alloc, run, Some(Failing { what, call }), lefts)?;
         if is_unexpected(what, call, &before, &left, whole) {
             return Ok(Some(call));
         }

@@ -2,7 +2,6 @@
 
 ghost use Rattle.std.specs.Prelude.{◌≡◌, ◌+◌, ◌<◌, ◌≤◌, List, [], length, IfOk, OnOk, if◌then◌else◌};
 ghost use Rattle.std.specs.Option.{option_copied};
-ghost use Rattle.gl_vmaps.specs.Versions.{is_to_map};
 ghost use Rattle.gl_tx.specs.Sees.{seen_after};
 ghost use Rattle.gl_tx.specs.Run.{perform_result, with_writes};
 ghost use Rattle.gl_attempt.specs.Asks.{row_asks, key_asks, rows_written, allowed_asks, asks_of, asks_after, asks_from, first_unnoted, sees_by, next_ask};
@@ -77,13 +76,6 @@ fn follow_ask(
     }
 }
 
-/// Whether a write is to a map.
-fn is_to_map(write: &Write, map: &[u8]) -> bool
-    ensures { result ≡ is_to_map map.now write.now }
-{
-    map == write.map.as_slice()
-}
-
 /// The first row of a map that the request wrote and that isn't noted.
 fn written_ask(
     alloc: Global,
@@ -94,7 +86,7 @@ fn written_ask(
         ask ≡ first_unnoted overlay.now.base.now (rows_written map.now overlay.now.writes)) }
 {
     for write in overlay.writes.as_slice() {
-        if is_to_map(write, map.as_slice())
+        if write.is_to_map(map.as_slice())
             && !overlay.base.has_row(map.as_slice(), write.key.as_slice())
         {
             return Ok(Some(Ask::Row {

@@ -17,7 +17,7 @@ const MAP_NAME_LIMIT: u64 = 128;
 
 const KEY_LIMIT: u64 = 1024;
 
-/// Bytes of which the front was read, field by field. A read that answers a fault leaves the cut as
+/// Bytes of which a prefix was read, field by field. A read that answers a fault leaves the cut as
 /// it was. What is read is encoded so (`encoded`), and what is encoded so is read (`only`).
 #[derive(Debug, Drop)]
 pub struct Cut<'a> {
@@ -97,8 +97,10 @@ impl<'a> Cut<'a> {
     {
         self.chunk::<N>()
     }
+}
 
-    #[tactic(auto, using(crate::proofs::Numbers::number_from), unfolding(crate::specs::Cut::number_at))]
+#[tactic(auto, using(crate::proofs::Numbers::number_from), unfolding(crate::specs::Cut::number_at))]
+impl<'a> Cut<'a> {
     pub fn u8(&mut self) -> Result<u8, CutFault>
         ensures exact { Gives (λ n. n) result self.old self.new (number_at 1 self.old) }
         ensures encoded { IfOk result (λ n. self.old.bytes ≡ little_endian 1 n ++ self.new.bytes) }
@@ -111,7 +113,6 @@ impl<'a> Cut<'a> {
         }
     }
 
-    #[tactic(auto, using(crate::proofs::Numbers::number_from), unfolding(crate::specs::Cut::number_at))]
     pub fn u16(&mut self) -> Result<u16, CutFault>
         ensures exact { Gives (λ n. n) result self.old self.new (number_at 2 self.old) }
         ensures encoded { IfOk result (λ n. self.old.bytes ≡ little_endian 2 n ++ self.new.bytes) }
@@ -124,7 +125,6 @@ impl<'a> Cut<'a> {
         }
     }
 
-    #[tactic(auto, using(crate::proofs::Numbers::number_from), unfolding(crate::specs::Cut::number_at))]
     pub fn u32(&mut self) -> Result<u32, CutFault>
         ensures exact { Gives (λ n. n) result self.old self.new (number_at 4 self.old) }
         ensures encoded { IfOk result (λ n. self.old.bytes ≡ little_endian 4 n ++ self.new.bytes) }
@@ -138,7 +138,6 @@ impl<'a> Cut<'a> {
     }
 
     /// A number of six bytes.
-    #[tactic(auto, using(crate::proofs::Numbers::number_from), unfolding(crate::specs::Cut::number_at))]
     pub fn u48(&mut self) -> Result<u64, CutFault>
         ensures exact { Gives (λ n. n) result self.old self.new (number_at 6 self.old) }
         ensures encoded { IfOk result (λ n. self.old.bytes ≡ little_endian 6 n ++ self.new.bytes) }
@@ -151,7 +150,6 @@ impl<'a> Cut<'a> {
         }
     }
 
-    #[tactic(auto, using(crate::proofs::Numbers::number_from), unfolding(crate::specs::Cut::number_at))]
     pub fn u64(&mut self) -> Result<u64, CutFault>
         ensures exact { Gives (λ n. n) result self.old self.new (number_at 8 self.old) }
         ensures encoded { IfOk result (λ n. self.old.bytes ≡ little_endian 8 n ++ self.new.bytes) }
@@ -163,7 +161,9 @@ impl<'a> Cut<'a> {
             Err(fault) => Err(fault),
         }
     }
+}
 
+impl<'a> Cut<'a> {
     #[tactic(auto, unfolding(crate::specs::Cut::bytes_at))]
     fn take(&mut self, count: u64) -> Result<&'a [u8], CutFault>
         ensures { Gives (λ s. s.now) result self.old self.new (bytes_at count self.old) }
@@ -269,8 +269,10 @@ impl<'a> Cut<'a> {
     {
         self.name(limit)
     }
+}
 
-    #[tactic(auto, unfolding(crate::specs::Code::flag_at, crate::specs::LittleEndian::little_endian))]
+#[tactic(auto, unfolding(crate::specs::Code::flag_at, crate::specs::LittleEndian::little_endian))]
+impl<'a> Cut<'a> {
     fn flag_field(&mut self) -> Result<bool, CodeFault>
         ensures exact { Gives (λ b. b) result self.old self.new (flag_at self.old) }
         ensures encoded { IfOk result (λ b. self.old.bytes ≡ flag_byte b ∷ self.new.bytes) }
@@ -288,7 +290,9 @@ impl<'a> Cut<'a> {
             _ => Err(CodeFault::Value { at: self.at }),
         }
     }
+}
 
+impl<'a> Cut<'a> {
     /// A byte 0 for no, or 1 for yes.
     pub fn flag(&mut self) -> Result<bool, CodeFault>
         ensures exact { Gives (λ b. b) result self.old self.new (flag_at self.old) }
@@ -391,7 +395,7 @@ impl<'a> Cut<'a> {
         self.value_field(limit)
     }
 
-    #[tactic(auto, unfolding(crate::specs::Row::optional_value_at, crate::specs::LittleEndian::little_endian))]
+    #[tactic(auto, unfolding(crate::specs::Row::optional_value_at))]
     fn optional_value_field(&mut self, limit: u64) -> Result<Option<&'a [u8]>, CodeFault>
         requires { limit < 2 ^ 32 }
         ensures exact { Gives option_copied result self.old self.new

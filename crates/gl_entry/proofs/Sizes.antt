@@ -43,3 +43,6 @@ pub writes_counted : (e : Entry) → length e.writes ≤ length (body_bytes e)
 writes_counted e =
     let within = writes_within e.writes in
     simp (length-append, length-little_endian) (omega arith)
+
+-- The lengths of a body's parts are within that of the body.
+pub ruleset body_parts = (content_within, writes_counted)

@@ -81,7 +81,7 @@ fn read_first(
 
 impl Entry {
     /// The bytes of the frame: the body after a version, flags and its size.
-    #[tactic(auto, using(crate::proofs::Sizes::content_within, crate::proofs::Sizes::writes_counted))]
+    #[tactic(auto, using(crate::proofs::Sizes::body_parts))]
     pub fn encode(&self, alloc: Global) -> Result<Vec<u8>, AllocError>
         requires { length (body_bytes self.now) ≤ body_limit }
         ensures { IfOk result (λ bytes. bytes.items ≡ frame_bytes self.now) }

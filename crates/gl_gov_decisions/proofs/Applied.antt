@@ -278,6 +278,9 @@ state_before h s list none = ap (λ b. option_or (opened (is_recovered h) b) (se
 pub state_opened : (h : History) (s : ℕ) (list : List Action) → list_any opens list ≡ true → Some (state_once_open (is_recovered h)) ≡ service_state (with_all_applied h s list)
 state_opened h s list some = ap (λ b. option_or (opened (is_recovered h) b) (service_state h)) (sym some) ∙ state_with h s list
 
+-- The service's state after some actions, whether one of them opens it or not.
+pub ruleset state_after = (state_before, state_opened)
+
 -- ---- one more action
 
 pub one_more : (h : History) (s : ℕ) (list : List Action) (a : Action) → with_all_applied h s (list ++ a ∷ []) ≡ with_applied (with_all_applied h s list) s a

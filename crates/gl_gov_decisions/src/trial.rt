@@ -307,7 +307,7 @@ impl<'a> Trial<'a> {
     }
 
     /// The service's state, none before a founding.
-    #[tactic(auto, using(crate::proofs::Applied::state_before, crate::proofs::Applied::state_opened))]
+    #[tactic(auto, using(crate::proofs::Applied::state_after))]
     pub(crate) fn service_state(&self) -> Option<ServiceState>
         ensures { result ≡ service_state self.now }
     {

@@ -14,6 +14,7 @@ use Rattle.gl_vmaps.specs.Tables.{size_of}
 use Rattle.gl_entry.specs.Entry.{body_bytes, body_limit, frame_bytes, is_entry, is_signature}
 use Rattle.gl_entry.specs.Leaf.{id_of}
 use Rattle.gl_entry.specs.declared.entry.Entry.{Entry}
+use Rattle.gl_entry.proofs.Sizes.{body_parts}
 use Rattle.gl_ledger.specs.Audit.{audited}
 use Rattle.gl_ledger.specs.Broken.{broken}
 use Rattle.gl_ledger.specs.NodeKeys.{service_layers}
@@ -39,6 +40,9 @@ pub frame_length : (e : Entry) → length (frame_bytes e) ≡ 8 + length (body_b
 frame_length e =
     let size : List ℕ = little_endian 6 (length (body_bytes e)) in
     omega (arith, length-append (1 ∷ 0 ∷ size) (body_bytes e), length-little_endian 6 (length (body_bytes e)))
+
+-- The length of a frame, of an entry whose body is within its limit.
+pub ruleset frame_lengths = (frame_length, body_small, body_parts)
 
 one_signature : (e : Entry) → length (signatures_in (e ∷ [])) ≡ (if is_signature e.content then 1 else 0)
 one_signature e = go (is_signature e.content)

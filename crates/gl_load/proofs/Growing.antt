@@ -53,11 +53,11 @@ IsGrown seed count done =
     IsAt (node_after seed (events_up_to seed count done)) (2 + done + signings count done) (1 + signings count done) (1 + signings count done)
 
 module _ (seed : List ℕ) (count done : ℕ) where
-  abbrev suffix : List ServiceEvent
-  suffix = events_up_to seed count done
+  abbrev earlier : List ServiceEvent
+  earlier = events_up_to seed count done
 
   abbrev pub unsigned : List ServiceEvent
-  unsigned = suffix ++ submitting seed done ∷ []
+  unsigned = earlier ++ submitting seed done ∷ []
 
   abbrev pub with_leaf : List ServiceEvent
   with_leaf = unsigned ++ Reserve (load_id seed) ∷ []
@@ -72,14 +72,14 @@ module _ (seed : List ℕ) (count done : ℕ) where
   pub ends_signed : signs_after count (suc done) ≡ true → events_up_to seed count (suc done) ≡ with_commit
   unfolding events_up_to
   ends_signed signs =
-      ap (λ (t : Bool). suffix ++ submitting seed done ∷ (if t then signing seed else [])) signs
-      ∙ sym (push_append suffix (submitting seed done) (signing seed))
+      ap (λ (t : Bool). earlier ++ submitting seed done ∷ (if t then signing seed else [])) signs
+      ∙ sym (push_append earlier (submitting seed done) (signing seed))
       ∙ sym (push_append unsigned (Reserve (load_id seed)) (Sign (load_id seed) ∷ Advance (load_id seed) ∷ []))
       ∙ sym (push_append with_leaf (Sign (load_id seed)) (Advance (load_id seed) ∷ []))
 
   pub ends_unsigned : signs_after count (suc done) ≡ false → events_up_to seed count (suc done) ≡ unsigned
   unfolding events_up_to
-  ends_unsigned none = ap (λ (t : Bool). suffix ++ submitting seed done ∷ (if t then signing seed else [])) none
+  ends_unsigned none = ap (λ (t : Bool). earlier ++ submitting seed done ∷ (if t then signing seed else [])) none
 
   module _ (most : count ≤ 100000) (more : done < count) (at : IsGrown seed count done) where
     abbrev s : ℕ
@@ -93,13 +93,13 @@ module _ (seed : List ℕ) (count done : ℕ) where
 
     at_unsigned : IsAt (node_after seed unsigned) (2 + done + s + 1) (1 + s) (1 + s)
     at_unsigned =
-        subst (λ (m : Node Entry). IsAt m (2 + done + s + 1) (1 + s) (1 + s)) (sym (submitted seed suffix (load_request seed done)))
-        (submit_at seed suffix (2 + done + s) (1 + s) (1 + s) at done left)
+        subst (λ (m : Node Entry). IsAt m (2 + done + s + 1) (1 + s) (1 + s)) (sym (submitted seed earlier (load_request seed done)))
+        (submit_at seed earlier (2 + done + s) (1 + s) (1 + s) at done left)
 
     is_unsigned : IsUnsigned seed (node_after seed unsigned)
     is_unsigned =
-        subst (IsUnsigned seed) (sym (submitted seed suffix (load_request seed done)))
-        (submit_unsigned seed suffix (2 + done + s) (1 + s) (1 + s) at done left)
+        subst (IsUnsigned seed) (sym (submitted seed earlier (load_request seed done)))
+        (submit_unsigned seed earlier (2 + done + s) (1 + s) (1 + s) at done left)
 
     room : 1 + s < 1024
     room = omega (arith, few)
@@ -125,8 +125,8 @@ module _ (seed : List ℕ) (count done : ℕ) where
         (advance_at seed with_signature (2 + done + s + 1 + 1) (1 + s + 1) (1 + s + 1) at_signature)
 
     -- none of it is refused
-    pub takes_request : IsRefused (submit (load_book seed) (load_request seed done) (node_after seed suffix)).outcome → ⊥
-    takes_request = submit_unrefused seed suffix (2 + done + s) (1 + s) (1 + s) at done left
+    pub takes_request : IsRefused (submit (load_book seed) (load_request seed done) (node_after seed earlier)).outcome → ⊥
+    takes_request = submit_unrefused seed earlier (2 + done + s) (1 + s) (1 + s) at done left
 
     pub takes_leaf : IsRefused (reserve (load_book seed) (load_id seed) (node_after seed unsigned)).outcome → ⊥
     takes_leaf = reserve_unrefused seed unsigned (2 + done + s + 1) (1 + s) (1 + s) at_unsigned room

@@ -13,7 +13,7 @@ use Rattle.gl_world.specs.Service.{ServiceEvent}
 use Rattle.gl_node.specs.Persistence.{HoldsWhole}
 use Rattle.gl_load.specs.Events.{events_up_to, load_ledger, node_after, signs_after}
 use Rattle.gl_load.specs.Founding.{load_book, load_id, load_start}
-use Rattle.gl_load.specs.Node.{IsAfter, IsLed, IsSuffix, IsUnsigned, Takes}
+use Rattle.gl_load.specs.Node.{IsAfter, IsAfterRequests, IsLed, IsUnsigned, Takes}
 use Rattle.gl_load.specs.Requests.{load_request, words_after}
 use Rattle.gl_load.specs.Types.{LoadCore, LoadSeen}
 use Rattle.gl_load.proofs.Growing.{ends_signed, ends_unsigned, grown, nothing_yet, takes_commit, takes_leaf, takes_request, takes_signature, unsigned, with_leaf, with_signature}
@@ -107,7 +107,7 @@ module _ {S : Type 0} (stands : S → ServiceBook → Holding Entry → Type 0) 
 
   -- ---- all requests
 
-  pub none_after : (seed : List ℕ) (count : ℕ) (seen : LoadSeen S) (words : ChaCha) → IsAfter stands seed [] seen → words ≡ of_seed seed → IsSuffix stands seed count 0 seen words
+  pub none_after : (seed : List ℕ) (count : ℕ) (seen : LoadSeen S) (words : ChaCha) → IsAfter stands seed [] seen → words ≡ of_seed seed → IsAfterRequests stands seed count 0 seen words
   none_after seed count seen words at is = record {
     after = subst (λ (es : List ServiceEvent). IsAfter stands seed es seen) (sym (nothing_yet seed count)) at;
     words_are = is;

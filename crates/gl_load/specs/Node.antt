@@ -42,7 +42,7 @@ module _ {S : Type 0} (stands : S → ServiceBook → Holding Entry → Type 0) 
     pub going : seen.stopped ≡ None
 
   -- So it does after so many requests, and the next words are those of the next request.
-  pub record IsSuffix (seed : List ℕ) (count done : ℕ) (seen : LoadSeen S) (words : ChaCha) :
+  pub record IsAfterRequests (seed : List ℕ) (count done : ℕ) (seen : LoadSeen S) (words : ChaCha) :
       Type 0 where
     pub after : IsAfter seed (events_up_to seed count done) seen
     pub words_are : words ≡ words_after seed done

@@ -5,7 +5,7 @@ ghost use Rattle.gl_replication.specs.Events.{has_few_entries, rule_of};
 ghost use Rattle.gl_replication.specs.Stands.{IsNoMemory, Reports, StandsFor};
 ghost use Rattle.gl_load.specs.Events.{events_up_to, signs_after};
 ghost use Rattle.gl_load.specs.Founding.{load_book, load_holding};
-ghost use Rattle.gl_load.specs.Node.{HasLeaf, HasSigned, IsAfter, IsLed, IsSuffix, IsUnsigned, Takes};
+ghost use Rattle.gl_load.specs.Node.{HasLeaf, HasSigned, IsAfter, IsAfterRequests, IsLed, IsUnsigned, Takes};
 ghost use Rattle.gl_load.specs.Requests.{words_after};
 
 use crate::founding::key_seed;
@@ -93,7 +93,7 @@ fn submit<B: KeptBook + ClientBook>(
 ) -> Result<(), AllocError>
     requires few { count ≤ 100000 }
     requires more { done < count }
-    requires suffix { IsSuffix B.stands seed.now count done node.old words.old }
+    requires after { IsAfterRequests B.stands seed.now count done node.old words.old }
     ensures unsigned { OnOk result (IsUnsigned B.stands seed.now count done node.new) }
     ensures words { OnOk result (words.new ≡ words_after seed.now (suc done)) }
 {
@@ -206,8 +206,8 @@ pub(crate) fn take_request<B: KeptBook + ClientBook>(
 ) -> Result<(), AllocError>
     requires few { count ≤ 100000 }
     requires more { done < count }
-    requires suffix { IsSuffix B.stands seed.now count done node.old words.old }
-    ensures { OnOk result (IsSuffix B.stands seed.now count (suc done) node.new words.new) }
+    requires after { IsAfterRequests B.stands seed.now count done node.old words.old }
+    ensures { OnOk result (IsAfterRequests B.stands seed.now count (suc done) node.new words.new) }
 {
     submit(alloc, seed, node, words, count, done)?;
     sign_if_due(seed, node, count, done)

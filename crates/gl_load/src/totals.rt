@@ -47,7 +47,7 @@ fn audit(state: &mut LedgerState, entry: &Entry) -> Result<(), AllocError>
 }
 
 /// How many bytes the frame of an entry has.
-#[tactic(auto, using(crate::proofs::Auditing::frame_length, crate::proofs::Auditing::body_small, gl_entry::proofs::Sizes::content_within, gl_entry::proofs::Sizes::writes_counted))]
+#[tactic(auto, using(crate::proofs::Auditing::frame_lengths))]
 fn frame_len(entry: &Entry) -> u64
     requires { is_entry entry.now ≡ true }
     ensures exact { result ≡ length (frame_bytes entry.now) }

@@ -4,7 +4,7 @@ ghost use Rattle.std.specs.Prelude.{◌≡◌, ◌≤◌, length, IsTrue, IfSome
 ghost use Rattle.std.specs.Option.{option_copied};
 ghost use Rattle.gl_vmaps.specs.Writes.{is_ordered};
 ghost use Rattle.gl_vmaps.specs.Name.{is_value};
-ghost use Rattle.gl_vmaps.specs.Versions.{is_to_map, is_to_row};
+ghost use Rattle.gl_vmaps.specs.Versions.{is_to_row};
 ghost use Rattle.gl_tx.specs.Sees.{write_to};
 
 use crate::lookup::Lookup;
@@ -71,14 +71,14 @@ impl<'a, L: Lookup> Overlay<'a, L> {
     fn gains(&self, map: &[u8], write: &Write) -> bool
         ensures { result ≡ gains (L.sees self.now.base.now).value map.now write.now }
     {
-        is_to_map(write, map) && write.value.is_some() && !self.had(map, write)
+        write.is_to_map(map) && write.value.is_some() && !self.had(map, write)
     }
 
     /// Whether a write removes a row of the map that was there.
     fn loses(&self, map: &[u8], write: &Write) -> bool
         ensures { result ≡ loses (L.sees self.now.base.now).value map.now write.now }
     {
-        is_to_map(write, map) && write.value.is_none() && self.had(map, write)
+        write.is_to_map(map) && write.value.is_none() && self.had(map, write)
     }
 
     /// Whether the map had the key of a write before the request.
@@ -109,13 +109,6 @@ impl<'a, L: Lookup> Overlay<'a, L> {
     {
         self.writes.put(write)
     }
-}
-
-/// Whether a write is to a map.
-fn is_to_map(write: &Write, map: &[u8]) -> bool
-    ensures { result ≡ is_to_map map.now write.now }
-{
-    map == write.map.as_slice()
 }
 
 /// Whether a write is to a row.

@@ -56,23 +56,35 @@ fn last_of<'a>(rows: &'a Rows, key: &[u8]) -> Option<&'a Version>
     }
 }
 
-/// Adds a version after those of a row. Running out of memory leaves the rows as they were.
-fn push_into(rows: &mut Rows, alloc: Global, key: &[u8], version: Version) -> Result<(), AllocError>
+/// Adds a version after those of a row, and reports whether the row had a value. Running out of
+/// memory leaves the rows as they were.
+fn push_into(
+    rows: &mut Rows,
+    alloc: Global,
+    key: &[u8],
+    version: Version,
+) -> Result<bool, AllocError>
     ensures ok { OnOk result (let old = chains_by rows.old.entries in
         chains_by rows.new.entries ≡
         with_chain old key.now (chain_of old key.now ++ version ∷ [])) }
+    ensures had { IfOk result (λ had.
+        had ≡ is_some (last_value (chain_of (chains_by rows.old.entries) key.now))) }
     ensures err { OnErr result (chains_by rows.new.entries ≡ chains_by rows.old.entries) }
 {
     match rows.get_mut(key) {
-        Some(chain) => chain.push_back(version)?,
+        Some(chain) => {
+            let had = has_value(chain.back());
+            chain.push_back(version)?;
+            Ok(had)
+        }
         None => {
             // most rows are written once
             let mut chain = VecDeque::with_capacity(alloc, 1)?;
             chain.push_back(version)?;
             rows.insert(Vec::from_slice(alloc, key)?, chain)?;
+            Ok(false)
         }
     }
-    Ok(())
 }
 
 /// Takes back the last version of a row, and reports whether no other is left.
@@ -302,10 +314,9 @@ impl Table {
         ensures err { OnErr result (self.new ≡ self.old) }
     {
         let count = self.size();
-        let had = has_value(self.last(key));
         let has = version.value.is_some();
         let place = version.place;
-        push_into(&mut self.rows, alloc, key, version)?;
+        let had = push_into(&mut self.rows, alloc, key, version)?;
         self.count = recount(count, had, has);
         self.newest = place;
         Ok(())

@@ -23,6 +23,7 @@ pub struct Write {
 
 impl Write {
     ghost use Rattle.std.specs.Prelude.{◌≡◌, IsTrue, IfOk};
+    ghost use Rattle.gl_vmaps.specs.Versions.{is_to_map};
     ghost use Rattle.gl_vmaps.specs.Writes.{row_order, is_write};
 
     /// The same write in memory of its own. Fails only where memory runs out.
@@ -38,6 +39,13 @@ impl Write {
             key: self.key.copy(alloc)?,
             value,
         })
+    }
+
+    /// Whether the write is to this map.
+    pub fn is_to_map(&self, map: &[u8]) -> bool
+        ensures { result ≡ is_to_map map.now self.now }
+    {
+        map == self.map.as_slice()
     }
 
     /// How the row of this map and key stands to the row of the write, by map, then by key.

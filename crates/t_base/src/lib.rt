@@ -14,5 +14,3 @@ mod lms;
 mod merkle;
 #[cfg(test)]
 mod outside;
-#[cfg(test)]
-mod shares;

@@ -1,5 +1,5 @@
 //! Tests of the libraries over files and sockets: a disk over a file, a link over sockets, key
-//! files and dealings.
+//! files, shares and dealings.
 #![tactic(auto)]
 
 #[cfg(test)]
@@ -10,3 +10,5 @@ mod file;
 mod keyfile;
 #[cfg(test)]
 mod net;
+#[cfg(test)]
+mod shares;

@@ -83,7 +83,11 @@ const BAD_ACTIONS: Lines<'static> = &[
         "refused 48 1 4",
     ),
     (
-        r#"propose 1 1 {"actions":[{"args":{"key":"000000000000000000000000000000000000000000000000000000000000000000000000000000000000000000000000000000000000000000000000","number":1},"name":"set_member"}]}"#,
+        concat!(
+            r#"propose 1 1 {"actions":[{"args":{"key":"000000000000000000000000000000000000"#,
+            r#"000000000000000000000000000000000000000000000000000000000000000000000000"#,
+            r#"000000000000","number":1},"name":"set_member"}]}"#,
+        ),
         "refused 48 1 1",
     ),
     // The request that was refused before the member was active.
@@ -119,12 +123,20 @@ const NOTHING: Lines<'static> = &[
     ("again 1 99", "refused 0"),
     // Each node that the JSON names is to be there.
     (
-        r##"propose 1 1 {"actions":[{"args":{"secret_digest":"#2","shares":[{"digest":"#1","member":1}],"threshold":1},"name":"set_recovery_threshold"}]}"##,
+        concat!(
+            r##"propose 1 1 {"actions":[{"args":{"secret_digest":"#2","##,
+            r##""shares":[{"digest":"#1","member":1}],"threshold":1},"##,
+            r##""name":"set_recovery_threshold"}]}"##,
+        ),
         "refused 0",
     ),
     ("ack 1 1", "accepted 2.3"),
     (
-        r##"propose 1 1 {"actions":[{"args":{"secret_digest":"#1","shares":[{"digest":"#1","member":1}],"threshold":1},"name":"set_recovery_threshold"}]}"##,
+        concat!(
+            r##"propose 1 1 {"actions":[{"args":{"secret_digest":"#1","##,
+            r##""shares":[{"digest":"#1","member":1}],"threshold":1},"##,
+            r##""name":"set_recovery_threshold"}]}"##,
+        ),
         "accepted 2.4 proposal 1 Open",
     ),
     // So the next leaf is the third; its request again, by the line that sent it again.

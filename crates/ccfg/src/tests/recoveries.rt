@@ -444,7 +444,8 @@ const PROPOSALS: &[Run<'static>] = &[
     Run {
         name: "alice's proposal",
         input: &[Text(
-            "{\"actions\":[{\"args\":{},\"name\":\"transition_service_to_open\"}],\"op\":\"propose\"}",
+            "{\"actions\":[{\"args\":{},\"name\":\"transition_service_to_open\"}],\
+            \"op\":\"propose\"}",
         )],
         disk: Some(&[All(Disk("alice's ack"))]),
         output: Output::SignedBy(1),

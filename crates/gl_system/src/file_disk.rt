@@ -8,10 +8,50 @@ ghost use Rattle.gl_system.specs.Place.{IsLength, ReadsAt, WritesAt};
 use crate::place::{length, read_from, write_to};
 use gl_outside::{Disk, DiskFailed};
 use std::alloc::AllocError;
+use std::fmt::{self, Display, Formatter};
 use std::fs::{self, File, Files, OpenFile, OpenOptions};
 use std::io::{self, Read, Seek, Write};
 use std::os::unix::fs::OpenOptionsExt;
 use std::path::Path;
+
+/// A call of a disk over a file.
+#[derive(Clone, Copy, Debug, PartialEq, Eq)]
+pub enum DiskCall {
+    Open,
+    Lock,
+    Len,
+    Read,
+    Write,
+    Sync,
+}
+
+impl Display for DiskCall {
+    fn fmt<W: fmt::Write>(&self, f: &mut Formatter<W>) -> fmt::Result {
+        f.pad(match self {
+            DiskCall::Open => "open",
+            DiskCall::Lock => "lock",
+            DiskCall::Len => "seek to the end",
+            DiskCall::Read => "read",
+            DiskCall::Write => "write",
+            DiskCall::Sync => "sync",
+        })
+    }
+}
+
+/// A call that failed, and the system's error.
+#[derive(Debug, Drop)]
+pub struct DiskFailure {
+    pub call: DiskCall,
+    pub error: io::Error,
+}
+
+impl DiskFailure {
+    fn new(call: DiskCall, error: io::Error) -> Self
+        ensures { result ≡ record { call = call; error = error } }
+    {
+        DiskFailure { call, error }
+    }
+}
 
 /// A file as a disk, which counts its errors. Without a file each call fails.
 ///
@@ -24,6 +64,8 @@ pub struct FileDisk<F = File> {
     pub file: Option<F>,
     /// How many calls failed, up to the last value of a u64.
     pub faults: u64,
+    /// The last call that the system failed, if there is one.
+    pub failure: Option<DiskFailure>,
 }
 
 /// How the file is opened: to be read and written, made where there is none, and left as it stands
@@ -49,6 +91,16 @@ fn open_or_make<R: Files>(files: &R, path: &str) -> io::Result<R::File> {
     Ok(file)
 }
 
+/// Opens a file for this process alone: it is locked until it is closed. Where another process has
+/// the lock it isn't waited for.
+fn open_locked<R: Files<File = File>>(files: &R, path: &str) -> Result<File, DiskFailure> {
+    let file = open_or_make(files, path).map_err(|error| DiskFailure::new(DiskCall::Open, error))?;
+    match file.try_lock() {
+        Ok(()) => Ok(file),
+        Err(error) => Err(DiskFailure::new(DiskCall::Lock, error.into())),
+    }
+}
+
 /// The folder in which the path's last name stands.
 fn folder_of(path: &str) -> Path<'_> {
     match Path::new(path).parent() {
@@ -60,35 +112,55 @@ fn folder_of(path: &str) -> Path<'_> {
 impl<F> FileDisk<F> {
     /// A disk over a file that is open for reading and writing.
     pub fn new(file: F) -> Self
-        ensures { result ≡ record { file = Some file; faults = 0 } }
+        ensures { result ≡ record { file = Some file; faults = 0; failure = None } }
     {
         FileDisk {
             file: Some(file),
             faults: 0,
+            failure: None,
         }
     }
 
-    /// Opens the file at a path, as it stands. Where there is none it is made, empty, to be read
-    /// and written by its owner alone (mode 0600). Where it can't be opened or made, or its folder
-    /// can't be synced, the disk has no file, and each call of it fails.
-    pub fn open<R: Files<File = F>>(files: &R, path: &str) -> Self
-        ensures { result.faults ≡ 0 }
+    /// A disk without a file, and why it has none, where the system was asked for one.
+    pub fn none(failure: Option<DiskFailure>) -> Self
+        ensures { result ≡ record { file = None; faults = 0; failure = failure } }
     {
         FileDisk {
-            file: open_or_make(files, path).ok(),
+            file: None,
             faults: 0,
+            failure,
         }
     }
 
-    /// Counts a call, and fails.
-    fn fail<T>(&mut self) -> Result<T, DiskFailed>
+    /// Counts a call, and fails. What the system answered, if it was asked, is noted.
+    fn fail<T>(&mut self, failure: Option<DiskFailure>) -> Result<T, DiskFailed>
         ensures fails { IsErr result }
         ensures counted { self.new.faults ≡ next_call self.old.faults }
         ensures faults { Counts self.old.faults self.new.faults result }
         ensures file { self.new.file ≡ self.old.file }
+        ensures noted { IsSome failure → self.new.failure ≡ failure }
+        ensures kept { failure ≡ None → self.new.failure ≡ self.old.failure }
     {
         self.faults = self.faults.saturating_add(1);
+        if failure.is_some() {
+            self.failure = failure;
+        }
         Err(DiskFailed)
+    }
+}
+
+impl FileDisk {
+    /// Opens the file at a path, as it stands, for this process alone. Where there is none it is
+    /// made, empty, to be read and written by its owner alone (mode 0600). Where it can't be opened
+    /// or made, its folder can't be synced, or another process has it, the disk has no file, and
+    /// each call of it fails.
+    pub fn open<R: Files<File = File>>(files: &R, path: &str) -> Self
+        ensures { result.faults ≡ 0 }
+    {
+        match open_locked(files, path) {
+            Ok(file) => FileDisk::new(file),
+            Err(failure) => FileDisk::none(Some(failure)),
+        }
     }
 }
 
@@ -117,12 +189,14 @@ impl<F: Read + Write + Seek + OpenFile> Disk for FileDisk<F> {
         ensures counted { OnErr result (self.new.faults ≡ next_call self.old.faults) }
         ensures faults { Counts self.old.faults self.new.faults result }
     {
-        if let Some(file) = &mut self.file
-            && let Ok(len) = length(file)
-        {
-            return Ok(len);
-        }
-        self.fail()
+        let failure = match &mut self.file {
+            None => None,
+            Some(file) => match length(file) {
+                Ok(len) => return Ok(len),
+                Err(error) => Some(DiskFailure::new(DiskCall::Len, error)),
+            },
+        };
+        self.fail(failure)
     }
 
     /// Reads until the buffer is full. An end before that is a failure; the buffer may then hold
@@ -135,12 +209,14 @@ impl<F: Read + Write + Seek + OpenFile> Disk for FileDisk<F> {
         ensures counted { OnErr result (self.new.faults ≡ next_call self.old.faults) }
         ensures faults { Counts self.old.faults self.new.faults result }
     {
-        if let Some(file) = &mut self.file
-            && read_from(file, at, buf).is_ok()
-        {
-            return Ok(());
-        }
-        self.fail()
+        let failure = match &mut self.file {
+            None => None,
+            Some(file) => match read_from(file, at, buf) {
+                Ok(()) => return Ok(()),
+                Err(error) => Some(DiskFailure::new(DiskCall::Read, error)),
+            },
+        };
+        self.fail(failure)
     }
 
     /// Writes until the piece is written. Where it fails, a prefix of the piece may have been.
@@ -152,12 +228,14 @@ impl<F: Read + Write + Seek + OpenFile> Disk for FileDisk<F> {
         ensures counted { OnErr result (self.new.faults ≡ next_call self.old.faults) }
         ensures faults { Counts self.old.faults self.new.faults result }
     {
-        if let Some(file) = &mut self.file
-            && write_to(file, at, piece).is_ok()
-        {
-            return Ok(());
-        }
-        self.fail()
+        let failure = match &mut self.file {
+            None => None,
+            Some(file) => match write_to(file, at, piece) {
+                Ok(()) => return Ok(()),
+                Err(error) => Some(DiskFailure::new(DiskCall::Write, error)),
+            },
+        };
+        self.fail(failure)
     }
 
     /// Waits until the system has handed bytes and length of the file to its device (fsync).
@@ -167,10 +245,14 @@ impl<F: Read + Write + Seek + OpenFile> Disk for FileDisk<F> {
         ensures counted { OnErr result (self.new.faults ≡ next_call self.old.faults) }
         ensures faults { Counts self.old.faults self.new.faults result }
     {
-        match &self.file {
-            Some(file) if file.sync_all().is_ok() => Ok(()),
-            _ => self.fail(),
-        }
+        let failure = match &self.file {
+            None => None,
+            Some(file) => match file.sync_all() {
+                Ok(()) => return Ok(()),
+                Err(error) => Some(DiskFailure::new(DiskCall::Sync, error)),
+            },
+        };
+        self.fail(failure)
     }
 
     /// It takes no memory, so that callers without a file go on to the call that fails.

@@ -14,6 +14,6 @@ mod tcp_link;
 mod ticker;
 mod watched_source;
 
-pub use file_disk::FileDisk;
+pub use file_disk::{DiskCall, DiskFailure, FileDisk};
 pub use tcp_link::TcpLink;
 pub use watched_source::WatchedSource;

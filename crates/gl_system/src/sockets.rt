@@ -1,7 +1,7 @@
 //! The sockets of a node, with one poll: those that it accepts and those that it makes.
 
 ghost use Rattle.std.specs.Prelude.{◌≡◌};
-ghost use Rattle.gl_system.specs.declared.sockets.NextFault.TheVariants.{Failed, NoMemory};
+ghost use Rattle.gl_system.specs.declared.sockets.NextFault.TheVariants.{NoMemory};
 
 use crate::connection::{Connection, would_wait};
 use crate::outgoing::SendFault;
@@ -42,14 +42,6 @@ pub(crate) enum NextFault {
     NoMemory,
 }
 
-impl From<io::Error> for NextFault {
-    ghost from_gives = { λ _ fault. fault ≡ Failed };
-
-    fn from(_error: io::Error) -> NextFault {
-        NextFault::Failed
-    }
-}
-
 impl From<AllocError> for NextFault {
     ghost from_gives = { λ _ fault. fault ≡ NoMemory };
 
@@ -77,6 +69,8 @@ pub(crate) struct Sockets<'a, R> {
     patience: u32,
     /// How many connections broke or could not be made, up to the last value of a u64.
     broken: u64,
+    /// Why the clock or the poll failed last, if one did.
+    failure: Option<io::Error>,
 }
 
 impl<'a, R: Net + Clock> Sockets<'a, R> {
@@ -105,6 +99,7 @@ impl<'a, R: Net + Clock> Sockets<'a, R> {
             ticker: Ticker::new(Instant::now(rt)?, Duration::from_millis(u64::from(tick))),
             patience: (PATIENCE / tick.max(1)).max(1),
             broken: 0,
+            failure: None,
         };
         sockets.connect_peers()?;
         Ok(sockets)
@@ -120,6 +115,22 @@ impl<'a, R: Net + Clock> Sockets<'a, R> {
         self.broken
     }
 
+    /// Why the clock or the poll failed last, if one did.
+    pub(crate) fn failure(&self) -> Option<&io::Error> {
+        self.failure.as_ref()
+    }
+
+    /// Notes why the clock or the poll failed, where it did.
+    fn note<T>(&mut self, outcome: io::Result<T>) -> Result<T, NextFault> {
+        match outcome {
+            Ok(value) => Ok(value),
+            Err(error) => {
+                self.failure = Some(error);
+                Err(NextFault::Failed)
+            }
+        }
+    }
+
     /// Waits for what comes next.
     pub(crate) fn next(&mut self) -> Result<Arrival, NextFault> {
         // A loop is proved to end, so this one counts its turns.
@@ -133,7 +144,8 @@ impl<'a, R: Net + Clock> Sockets<'a, R> {
 
     /// A tick that is due, else what the next event brings, else a poll.
     fn look(&mut self) -> Result<Option<Arrival>, NextFault> {
-        let now = Instant::now(self.rt)?;
+        let now = Instant::now(self.rt);
+        let now = self.note(now)?;
         if self.ticker.is_due(now) {
             self.begin_tick()?;
             self.ticker.restart(now);
@@ -147,7 +159,8 @@ impl<'a, R: Net + Clock> Sockets<'a, R> {
         }
         let left = self.ticker.left(now);
         self.handled = 0;
-        self.poll.poll(&mut self.events, Some(left))?;
+        let polled = self.poll.poll(&mut self.events, Some(left));
+        self.note(polled)?;
         if self.events.is_empty() {
             self.ticker.look();
         }

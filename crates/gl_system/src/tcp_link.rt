@@ -102,6 +102,11 @@ impl<'a, R: Net + Clock> TcpLink<'a, R> {
         self.sockets.as_ref()?.local_addr().ok()
     }
 
+    /// Why a call of `next` failed last, if the system failed it.
+    pub fn failure(&self) -> Option<&io::Error> {
+        self.sockets.as_ref()?.failure()
+    }
+
     /// How many connections broke or could not be made, up to the last value of a u64. A client
     /// that leaves doesn't count, nor one that is let go of since it takes nothing.
     pub fn broken(&self) -> u64 {

@@ -1,7 +1,7 @@
 //! A disk over a file of the system, and over one in memory whose calls fail.
 
 use gl_outside::{Disk, DiskFailed};
-use gl_system::FileDisk;
+use gl_system::{DiskCall, FileDisk};
 use std::alloc::Global;
 use std::fs::{self, File, Files, Metadata, OpenFile};
 use std::io::{self, Cursor, ErrorKind, Read, Seek, SeekFrom, Write};
@@ -33,8 +33,19 @@ fn written<R: Files<File = File> + Abort>(rt: &R, path: &str) -> Result<FileDisk
     Ok(disk)
 }
 
+/// While a file is open no other disk has it, and its bytes stay.
+fn find_locked<R: Files<File = File> + Abort>(rt: &R, path: &str) -> Result<(), Fail> {
+    let mut disk = FileDisk::open(rt, path);
+    assert!(rt; matches!(&disk.failure, Some(failure) if failure.call == DiskCall::Lock));
+    assert_eq!(rt;
+        (disk.write_at(0, b"other"), disk.faults()),
+        (Err(DiskFailed), 1)
+    );
+    Ok(())
+}
+
 /// What was written is found by another opening. Past the end there is nothing to read.
-fn find<R: Files + Abort>(rt: &R, path: &str) -> Result<(), Fail> {
+fn find<R: Files<File = File> + Abort>(rt: &R, path: &str) -> Result<(), Fail> {
     let mut disk = FileDisk::open(rt, path);
     let mut all = [0; 7];
     assert_eq!(rt; disk.len(), Ok(7));
@@ -51,8 +62,10 @@ fn keeps_what_was_written(rt: HostRuntime) -> Result<(), Fail> {
     let _ = fs::create_dir(&rt, "gl_file_folder");
     for path in ["gl_file_kept.disk", "gl_file_folder/kept.disk"] {
         let disk = written(&rt, path)?;
-        find(&rt, path)?;
+        find_locked(&rt, path)?;
         assert_eq!(rt; disk.faults(), 0);
+        drop(disk);
+        find(&rt, path)?;
         fs::remove_file(&rt, path)?;
     }
     fs::remove_dir(&rt, "gl_file_folder")?;
@@ -155,7 +168,15 @@ impl OpenFile for Faulty {
 #[test]
 fn takes_pieces_whole_and_counts_each_failure_once(rt: HostRuntime) -> Result<(), Fail> {
     // A seek and four writes, then a sync, then a seek and four reads.
-    for (failing, faults) in [(1, 3), (2, 3), (5, 3), (6, 1), (7, 1), (10, 1), (11, 0)] {
+    for (failing, faults, last) in [
+        (1, 3, Some(DiskCall::Read)),
+        (2, 3, Some(DiskCall::Read)),
+        (5, 3, Some(DiskCall::Read)),
+        (6, 1, Some(DiskCall::Sync)),
+        (7, 1, Some(DiskCall::Read)),
+        (10, 1, Some(DiskCall::Read)),
+        (11, 0, None),
+    ] {
         let mut disk = FileDisk::new(Faulty::new(rt.alloc(), failing, ErrorKind::Other));
         let wrote = disk.write_at(0, b"galdoxe");
         let synced = disk.sync();
@@ -164,6 +185,11 @@ fn takes_pieces_whole_and_counts_each_failure_once(rt: HostRuntime) -> Result<()
         let printed = [wrote.is_ok(), synced.is_ok(), read.is_ok()];
         let output = [failing > 5, failing > 5, failing > 10];
         assert_eq!(rt; (printed, disk.faults()), (output, faults), "at {failing}");
+        let call = match &disk.failure {
+            None => None,
+            Some(failure) => Some(failure.call),
+        };
+        assert_eq!(rt; call, last, "at {failing}");
         assert!(rt; read.is_err() || back == *b"galdoxe");
     }
     Ok(())

@@ -4,26 +4,9 @@
 ghost use Rattle.std.specs.Prelude.{◌≡◌, IfOk};
 
 use crate::change::{Change, Changed, Proposal, Recorded, RecordedNode};
+use gl_index::Duplicate;
 use gl_requests::copy_actions;
 use std::alloc::{AllocError, Global};
-
-/// What a history holds a list of.
-pub(crate) trait Duplicate: Drop {
-    /// The same once more.
-    fn copy(&self, alloc: Global) -> Result<Self, AllocError>
-        ensures { IfOk result (λ copy. copy ≡ self.now) };
-}
-
-/// All of a list once more.
-pub(crate) fn copy_all<T: Duplicate>(alloc: Global, items: &[T]) -> Result<Vec<T>, AllocError>
-    ensures { IfOk result (λ copy. copy.items ≡ items.now) }
-{
-    let mut out = Vec::new(alloc);
-    for item in items {
-        out.push(item.copy(alloc)?)?;
-    }
-    Ok(out)
-}
 
 impl Duplicate for Recorded {
     fn copy(&self, alloc: Global) -> Result<Recorded, AllocError> {

@@ -1,22 +1,18 @@
 //! Which nodes were recorded, and the status of each.
 
-ghost use Rattle.std.specs.Prelude.{◌≡◌, ◌++◌, ◌∷◌, [], true, false, map, option_map, count_by, is_some, IfOk, OnOk};
+ghost use Rattle.std.specs.Prelude.{◌≡◌, ◌++◌, true, map, option_map, count_by, is_some, IfOk, OnOk};
 ghost use Rattle.std.specs.Option.{option_copied};
-ghost use Rattle.std.specs.List.{list_any};
-ghost use Rattle.gl_base.specs.Bytes.{same_bytes};
-ghost use Rattle.gl_gov_rules.specs.declared.request_facts.Mark as a_mark;
 ghost use Rattle.gl_gov_rules.specs.declared.change.Changed as a_change;
-ghost use Rattle.gl_gov_rules.specs.declared.request_facts.Trust as a_trust;
-ghost use Rattle.gl_gov_rules.specs.Nodes.{recorded_node, nodes_recorded, retires};
+ghost use Rattle.gl_gov_rules.specs.Nodes.{recorded_node, nodes_recorded};
 ghost use Rattle.gl_gov_rules.specs.RequestFacts.{trust_in, retirement_in};
-ghost use Rattle.gl_gov_rules.specs.Index.{first_mark, is_node_or_all, is_retirement_of, first_retirement};
+ghost use Rattle.gl_gov_rules.specs.Index.{is_node_or_all, is_retirement_of};
 
-use crate::change::{Change, Changed, RecordedNode};
+use crate::change::{Changed, RecordedNode};
 use crate::history::History;
-use crate::lists::is_any_after;
 use crate::refusal::NodeStatus;
-use crate::request_facts::{Mark, Retirement, Trust, retirement_in, trust_in};
-use gl_requests::{Action, GovernanceRequest, NewNode, NodeId};
+use crate::request_facts::{Retirement, retirement_in, trust_in};
+use gl_index::is_any_after;
+use gl_requests::{GovernanceRequest, NewNode, NodeId};
 use std::alloc::{AllocError, Global};
 
 /// The node as it is recorded at a seqno.
@@ -54,20 +50,6 @@ fn push_founding_nodes(
     Ok(())
 }
 
-/// Adds the node that a join at a seqno names.
-fn push_node_joining(
-    alloc: Global,
-    nodes: &mut Vec<RecordedNode>,
-    seqno: u64,
-    node: &NewNode,
-) -> Result<(), AllocError>
-    ensures { OnOk result
-        (nodes.new.items ≡ nodes.old.items ++ recorded_node seqno false node.now ∷ []) }
-{
-    nodes.push(recorded_node(alloc, seqno, false, node)?)?;
-    Ok(())
-}
-
 /// Adds the nodes that the request at a seqno records.
 pub(crate) fn push_nodes_recorded(
     alloc: Global,
@@ -85,19 +67,11 @@ pub(crate) fn push_nodes_recorded(
         GovernanceRequest::Recover(recovery) => {
             push_founding_nodes(alloc, nodes, seqno, recovery.nodes.as_slice())
         }
-        GovernanceRequest::Join(node) => push_node_joining(alloc, nodes, seqno, node),
+        GovernanceRequest::Join(node) => {
+            nodes.push(recorded_node(alloc, seqno, false, node)?)?;
+            Ok(())
+        }
         _ => Ok(()),
-    }
-}
-
-/// Whether the change takes this node out of service.
-fn retires(id: &NodeId, change: &Change) -> bool
-    ensures { result ≡ retires id.now change.now }
-{
-    match change {
-        Change::Recovered(_) => true,
-        Change::Applied(Action::RemoveNode(other)) => id == other,
-        _ => false,
     }
 }
 
@@ -116,26 +90,6 @@ fn is_retirement_of(node: &RecordedNode, retirement: &Retirement) -> bool
     ensures { result ≡ is_retirement_of node.now retirement.now }
 {
     node.seqno < retirement.seqno && is_node_or_all(&node.id, &retirement.id)
-}
-
-/// The seqno of the first of these that takes the node out of service.
-fn first_retirement(node: &RecordedNode, retirements: &[Retirement]) -> Option<u64>
-    ensures { result ≡ first_retirement node.now retirements.now }
-{
-    match retirements
-        .iter()
-        .find(|retirement| is_retirement_of(node, retirement))
-    {
-        None => None,
-        Some(retirement) => Some(retirement.seqno),
-    }
-}
-
-/// Whether one of these is the node's.
-fn is_among(id: &NodeId, trusts: &[Trust]) -> bool
-    ensures { result ≡ list_any (λ (t : a_trust.Trust). same_bytes id.now t.id) trusts.now }
-{
-    trusts.iter().any(|trust| *id == trust.id)
 }
 
 /// How many nodes the changes trust.
@@ -161,23 +115,6 @@ pub(crate) fn retirement_count(changes: &[Changed]) -> usize
         .count()
 }
 
-/// Whether one of these marks this node.
-fn is_any_of(marks: &[Mark], id: &NodeId) -> bool
-    ensures { result ≡ list_any (λ (m : a_mark.Mark). same_bytes id.now m.id) marks.now }
-{
-    marks.iter().any(|mark| *id == mark.id)
-}
-
-/// The seqno of the first of these that marks this node.
-fn first_mark(marks: &[Mark], id: &NodeId) -> Option<u64>
-    ensures { result ≡ first_mark id.now marks.now }
-{
-    match marks.iter().find(|mark| *id == mark.id) {
-        None => None,
-        Some(mark) => Some(mark.seqno),
-    }
-}
-
 impl History {
     ghost use Rattle.gl_gov_rules.specs.Index.{has_mark_after};
     ghost use Rattle.gl_gov_rules.specs.Nodes.{node, retirement, mark, is_marked, is_trust_applied, was_trusted, node_status, trusted_count, pending_count};
@@ -190,35 +127,51 @@ impl History {
         self.nodes().iter().find(|node| node.id == *id)
     }
 
-    /// The first change after the node's own entry that took it out of service.
-    #[tactic(auto, unfolding(crate::specs::Nodes::retirement))]
-    pub fn retirement(&self, node: &RecordedNode) -> Option<&Changed>
-        ensures { option_copied result ≡ retirement self.now node.now }
-    {
-        self.changes().iter().find(|changed| node.seqno < changed.seqno
-            && retires(&node.id, &changed.change))
-    }
-
     /// The seqno of the entry that took the node out of service, if one did.
+    #[tactic(
+        auto,
+        unfolding(crate::specs::Nodes::retirement, crate::specs::Index::retirements_of),
+        using(crate::proofs::HistoryIndex::retirement_first)
+    )]
     pub fn removal(&self, node: &RecordedNode) -> Option<u64>
         ensures { result
             ≡ option_map (λ (c : a_change.Changed). c.seqno) (retirement self.now node.now) }
     {
-        first_retirement(node, self.retirements())
+        let first = self
+            .retirements()
+            .iter()
+            .find(|retirement| is_retirement_of(node, retirement));
+        match first {
+            None => None,
+            Some(retirement) => Some(retirement.seqno),
+        }
     }
 
     /// The seqno of the entry that marked a node, if one did.
+    #[tactic(
+        auto,
+        unfolding(crate::specs::Nodes::mark, crate::specs::Index::marks_of),
+        using(crate::proofs::HistoryIndex::mark_first)
+    )]
     pub fn mark(&self, id: &NodeId) -> Option<u64>
         ensures { result ≡ mark self.now id.now }
     {
-        first_mark(self.marks(), id)
+        match self.marks().iter().find(|mark| *id == mark.id) {
+            None => None,
+            Some(mark) => Some(mark.seqno),
+        }
     }
 
     /// Whether the node's Mark stands.
+    #[tactic(
+        auto,
+        unfolding(crate::specs::Nodes::is_marked, crate::specs::Index::marks_of),
+        using(crate::proofs::HistoryIndex::marked_any)
+    )]
     pub fn is_marked(&self, id: &NodeId) -> bool
         ensures { result ≡ is_marked self.now id.now }
     {
-        is_any_of(self.marks(), id)
+        self.marks().iter().any(|mark| *id == mark.id)
     }
 
     /// Whether a node was marked after a seqno. One look at each mark.
@@ -230,10 +183,15 @@ impl History {
     }
 
     /// Whether the node's trust was applied.
+    #[tactic(
+        auto,
+        unfolding(crate::specs::Nodes::is_trust_applied, crate::specs::Index::trusts_of),
+        using(crate::proofs::HistoryIndex::trust_any)
+    )]
     fn is_trust_applied(&self, id: &NodeId) -> bool
         ensures { result ≡ is_trust_applied self.now id.now }
     {
-        is_among(id, self.trusts())
+        self.trusts().iter().any(|trust| *id == trust.id)
     }
 
     /// Whether a founding named the node, or its trust was applied.

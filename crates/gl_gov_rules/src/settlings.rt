@@ -53,13 +53,6 @@ pub(crate) fn settle(settlings: &mut [Option<Settling>], proposals: &[Proposal],
     }
 }
 
-/// The proposal at a place, if there is one.
-fn proposal_at(proposals: &[Proposal], place: usize) -> Option<&Proposal>
-    ensures { option_copied result ≡ slice_get proposals.now place }
-{
-    proposals.get(place)
-}
-
 /// Adds what settles the proposal after those that are told of, if there is one.
 pub(crate) fn push_settling(
     settlings: &mut Vec<Option<Settling>>,
@@ -70,7 +63,7 @@ pub(crate) fn push_settling(
     ensures { settlings.new.items ≡ settlings.old.items ++ option_to_list
         (option_map (settling_in changes.now) (slice_get proposals.now (vec_len settlings.old))) }
 {
-    match proposal_at(proposals, settlings.len()) {
+    match proposals.get(settlings.len()) {
         None => {}
         Some(proposal) => settlings.push_reserved(settling_in(changes, proposal)),
     }

@@ -3,8 +3,8 @@ use Rattle.gl_gov_rules.specs.Proposals.{settlings, settling_in}
 use Rattle.gl_gov_rules.proofs.Settled.{kept_settling}
 use Rattle.gl_gov_rules.proofs.history.History.settling.Goals as goal
 
-pub returns-in-Some-settling_at : goal.returns-in-Some-settling_at
+pub returns-in-Some-get : goal.returns-in-Some-get
 unfolding settlings
-returns-in-Some-settling_at c =
-    kept_settling c.args.self.now.changes c.args.proposal.now c.proposals.result.now c.settlings.result.now c.in-Some.place c.in-Some-settling_at.settling
-    (c.settlings.ensures ∙ ap (map (settling_in c.args.self.now.changes)) (sym c.proposals.ensures)) (sym c.in-Some.ensures) (sym c.in-Some-settling_at.ensures)
+returns-in-Some-get c =
+    kept_settling c.args.self.now.changes c.args.proposal.now c.proposals.result.now c.settlings.result.now c.in-Some.place c.in-Some-get.settling
+    (c.settlings.ensures ∙ ap (map (settling_in c.args.self.now.changes)) (sym c.proposals.ensures)) (sym c.in-Some.ensures) (sym c.in-Some-get.ensures)

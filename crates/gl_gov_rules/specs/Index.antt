@@ -1,6 +1,6 @@
 -- What stands beside the requests and the changes of a history, so that no question about members,
 -- nodes, proposals or shares goes through all requests.
-use Rattle.std.specs.Prelude.{◌≡◌, ℕ, ◌+◌, ◌-◌, ◌≤◌, ◌<◌, List, Option, None, Some, true, length, find, map, filter_map, option_map, slice_get, nat_lt, nat_eq, Bool, ◌&&◌, if◌then◌else◌, vec_len, vec_capacity}
+use Rattle.std.specs.Prelude.{◌≡◌, ℕ, ◌+◌, ◌-◌, ◌≤◌, List, Option, None, Some, true, length, find, map, filter_map, option_map, slice_get, nat_lt, nat_eq, Bool, ◌&&◌, if◌then◌else◌, vec_len, vec_capacity}
 use Rattle.std.specs.List.{AllByRecursion, flat_map, list_any}
 use Rattle.std.specs.declared.vec.Vec.{Vec}
 use Rattle.std.specs.declared.alloc.Global.{Global}

@@ -40,11 +40,7 @@ pub(crate) fn reserve_answer(
 }
 
 /// Adds the ballot that the request at a seqno gives.
-pub(crate) fn push_answer(
-    ballots: &mut KeyedLists<Ballot>,
-    seqno: u64,
-    request: &GovernanceRequest,
-)
+pub(crate) fn push_answer(ballots: &mut KeyedLists<Ballot>, seqno: u64, request: &GovernanceRequest)
     requires { HasRoomForAnswer ballots.old request.now }
     ensures more { (id : List ℕ) → list_on ballots.new id
         ≡ list_on ballots.old id ++ option_to_list (ballot_in id seqno request.now) }

@@ -222,10 +222,7 @@ impl History {
     }
 
     /// What settled each proposal, in their order, none where it is open.
-    #[tactic(
-        auto,
-        unfolding(crate::specs::Proposals::settlings, crate::specs::Proposals::proposals)
-    )]
+    #[tactic(auto, using(crate::proofs::HistoryIndex::settlings_are))]
     pub fn settlings(&self) -> &[Option<Settling>]
         ensures { result.now ≡ settlings self.now }
     {

@@ -5,11 +5,12 @@ ghost use Rattle.std.specs.Option.{option_copied};
 ghost use Rattle.gl_gov_rules.specs.declared.change.Changed as a_change;
 ghost use Rattle.gl_gov_rules.specs.Members.{member_named};
 ghost use Rattle.gl_gov_rules.specs.RequestFacts.{removed_in};
+ghost use Rattle.gl_gov_rules.specs.Index.{last_leaf};
 
 use crate::change::{Change, Changed};
 use crate::history::History;
 use crate::refusal::MemberStatus;
-use crate::request_facts::removed_in;
+use crate::request_facts::{Signed, removed_in};
 use gl_requests::{Action, NewMember};
 
 /// The member whom the change names.
@@ -44,6 +45,16 @@ pub(crate) fn removed_count(changes: &[Changed]) -> usize
         .count()
 }
 
+/// 1 plus the leaf of the last of these, 0 without one.
+fn last_leaf(signed: &[Signed]) -> u32
+    ensures { result ≡ last_leaf signed.now }
+{
+    match signed.last() {
+        None => 0,
+        Some(signed) => signed.next_leaf,
+    }
+}
+
 impl History {
     ghost use Rattle.gl_gov_rules.specs.Members.{member, is_removed, has_acked, member_status, is_present, is_active, present_count, active_count, next_leaf};
 
@@ -56,11 +67,7 @@ impl History {
     }
 
     /// Whether a removal of the member was applied.
-    #[tactic(
-        auto,
-        unfolding(crate::specs::Members::is_removed, crate::specs::Index::removed),
-        using(crate::proofs::HistoryIndex::removed_any)
-    )]
+    #[tactic(auto, using(crate::proofs::HistoryIndex::removed_is))]
     pub fn is_removed(&self, number: u8) -> bool
         ensures { result ≡ is_removed self.now number }
     {
@@ -68,11 +75,7 @@ impl History {
     }
 
     /// Whether the member's Ack stands.
-    #[tactic(
-        auto,
-        unfolding(crate::specs::Members::has_acked, crate::specs::Index::signed),
-        using(crate::proofs::HistoryIndex::acked_any)
-    )]
+    #[tactic(auto, using(crate::proofs::HistoryIndex::acked_is))]
     pub fn has_acked(&self, number: u8) -> bool
         ensures { result ≡ has_acked self.now number }
     {
@@ -136,9 +139,6 @@ impl History {
         ensures leaf { result ≡ next_leaf self.now number }
         ensures range { result ≤ 1024 }
     {
-        match self.signed(number).last() {
-            None => 0,
-            Some(signed) => signed.next_leaf,
-        }
+        last_leaf(self.signed(number))
     }
 }

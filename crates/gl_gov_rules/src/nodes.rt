@@ -128,11 +128,7 @@ impl History {
     }
 
     /// The seqno of the entry that took the node out of service, if one did.
-    #[tactic(
-        auto,
-        unfolding(crate::specs::Nodes::retirement, crate::specs::Index::retirements_of),
-        using(crate::proofs::HistoryIndex::retirement_first)
-    )]
+    #[tactic(auto, using(crate::proofs::HistoryIndex::removal_is))]
     pub fn removal(&self, node: &RecordedNode) -> Option<u64>
         ensures { result
             ≡ option_map (λ (c : a_change.Changed). c.seqno) (retirement self.now node.now) }
@@ -148,11 +144,7 @@ impl History {
     }
 
     /// The seqno of the entry that marked a node, if one did.
-    #[tactic(
-        auto,
-        unfolding(crate::specs::Nodes::mark, crate::specs::Index::marks_of),
-        using(crate::proofs::HistoryIndex::mark_first)
-    )]
+    #[tactic(auto, using(crate::proofs::HistoryIndex::mark_is))]
     pub fn mark(&self, id: &NodeId) -> Option<u64>
         ensures { result ≡ mark self.now id.now }
     {
@@ -163,11 +155,7 @@ impl History {
     }
 
     /// Whether the node's Mark stands.
-    #[tactic(
-        auto,
-        unfolding(crate::specs::Nodes::is_marked, crate::specs::Index::marks_of),
-        using(crate::proofs::HistoryIndex::marked_any)
-    )]
+    #[tactic(auto, using(crate::proofs::HistoryIndex::marked_is))]
     pub fn is_marked(&self, id: &NodeId) -> bool
         ensures { result ≡ is_marked self.now id.now }
     {
@@ -183,11 +171,7 @@ impl History {
     }
 
     /// Whether the node's trust was applied.
-    #[tactic(
-        auto,
-        unfolding(crate::specs::Nodes::is_trust_applied, crate::specs::Index::trusts_of),
-        using(crate::proofs::HistoryIndex::trust_any)
-    )]
+    #[tactic(auto, using(crate::proofs::HistoryIndex::trust_is))]
     fn is_trust_applied(&self, id: &NodeId) -> bool
         ensures { result ≡ is_trust_applied self.now id.now }
     {

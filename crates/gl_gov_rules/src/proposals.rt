@@ -1,12 +1,11 @@
 //! Proposals, the ballots on them, and the state of each.
 
-ghost use Rattle.std.specs.Prelude.{◌≡◌, Option, true, count_by, IfOk};
+ghost use Rattle.std.specs.Prelude.{◌≡◌, true, IfOk};
 ghost use Rattle.std.specs.Option.{option_copied};
 ghost use Rattle.std.specs.List.{position};
-ghost use Rattle.gl_gov_rules.specs.declared.change.Settling as a_settling;
 ghost use Rattle.gl_gov_rules.specs.Index.{is_same_proposal};
 ghost use Rattle.gl_requests.specs.Ranges.{is_member_request, is_request};
-ghost use Rattle.gl_gov_rules.specs.Proposals.{proposal_in_act, proposal_in, state_settled, settling_in, settled_state, is_open_state, is_answer_on, is_ballot};
+ghost use Rattle.gl_gov_rules.specs.Proposals.{proposal_in_act, proposal_in, state_settled, settling_in, is_answer_on, is_ballot};
 
 use crate::ballots::has_vote;
 use crate::change::{Change, Proposal, ProposalState, Recorded, Settling};
@@ -85,18 +84,6 @@ fn place_of(proposals: &[Proposal], proposal: &Proposal) -> Option<usize>
     proposals.iter().position(|other| proposal.seqno == other.seqno && proposal.id == other.id)
 }
 
-/// How many of the proposals that are settled so are open.
-fn open_count(settlings: &[Option<Settling>]) -> usize
-    ensures { result
-        ≡ count_by (λ (s : Option a_settling.Settling). is_open_state (settled_state s))
-        settlings.now }
-{
-    settlings
-        .iter()
-        .filter(|settling| matches!(settled_state(**settling), ProposalState::Open))
-        .count()
-}
-
 /// Whether what a member asks for is a ballot on this proposal, with this answer.
 fn is_answer_on(id: &Digest, agrees: bool, act: &MemberAct) -> bool
     ensures { result ≡ is_answer_on id.now agrees act.now }
@@ -154,10 +141,14 @@ impl History {
     }
 
     /// How many proposals are open.
+    #[tactic(auto, using(crate::proofs::Settled::open_is))]
     pub fn open_count(&self) -> usize
         ensures { result ≡ open_count self.now }
     {
-        open_count(self.settlings())
+        self.settlings()
+            .iter()
+            .filter(|settling| matches!(settled_state(**settling), ProposalState::Open))
+            .count()
     }
 
     /// Whether the member gave this answer to this proposal.

@@ -190,11 +190,7 @@ impl History {
 
     /// The shares given after the last change that cleared them, in the order in which they were
     /// given.
-    #[tactic(
-        auto,
-        unfolding(crate::specs::Service::shares_given, crate::specs::Index::given),
-        using(crate::proofs::HistoryIndex::given_since)
-    )]
+    #[tactic(auto, using(crate::proofs::HistoryIndex::shares_are))]
     pub fn shares_given(&self, alloc: Global) -> Result<Vec<Share>, AllocError>
         ensures { IfOk result (λ shares. shares.items ≡ shares_given self.now) }
     {
@@ -202,11 +198,7 @@ impl History {
     }
 
     /// How many shares were given after the last change that cleared them.
-    #[tactic(
-        auto,
-        unfolding(crate::specs::Service::shares_given, crate::specs::Index::given),
-        using(crate::proofs::HistoryIndex::given_count)
-    )]
+    #[tactic(auto, using(crate::proofs::HistoryIndex::shares_count))]
     pub fn shares_given_count(&self) -> usize
         ensures { result ≡ length (shares_given self.now) }
     {

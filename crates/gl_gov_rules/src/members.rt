@@ -67,7 +67,6 @@ impl History {
     }
 
     /// Whether a removal of the member was applied.
-    #[tactic(auto, using(crate::proofs::HistoryIndex::removed_is))]
     pub fn is_removed(&self, number: u8) -> bool
         ensures { result ≡ is_removed self.now number }
     {
@@ -75,7 +74,6 @@ impl History {
     }
 
     /// Whether the member's Ack stands.
-    #[tactic(auto, using(crate::proofs::HistoryIndex::acked_is))]
     pub fn has_acked(&self, number: u8) -> bool
         ensures { result ≡ has_acked self.now number }
     {

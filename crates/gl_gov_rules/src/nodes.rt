@@ -117,7 +117,7 @@ pub(crate) fn retirement_count(changes: &[Changed]) -> usize
 
 impl History {
     ghost use Rattle.gl_gov_rules.specs.Index.{has_mark_after};
-    ghost use Rattle.gl_gov_rules.specs.Nodes.{node, retirement, mark, is_marked, is_trust_applied, was_trusted, node_status, trusted_count, pending_count};
+    ghost use Rattle.gl_gov_rules.specs.Nodes.{node, retirement, mark, is_marked, is_trust_applied, node_status, trusted_count, pending_count};
 
     /// The node with this identifier, if it is recorded.
     #[tactic(auto, unfolding(crate::specs::Nodes::node))]
@@ -128,23 +128,21 @@ impl History {
     }
 
     /// The seqno of the entry that took the node out of service, if one did.
-    #[tactic(auto, using(crate::proofs::HistoryIndex::removal_is))]
     pub fn removal(&self, node: &RecordedNode) -> Option<u64>
         ensures { result
             ≡ option_map (λ (c : a_change.Changed). c.seqno) (retirement self.now node.now) }
     {
-        let first = self
+        match self
             .retirements()
             .iter()
-            .find(|retirement| is_retirement_of(node, retirement));
-        match first {
+            .find(|retirement| is_retirement_of(node, retirement))
+        {
             None => None,
             Some(retirement) => Some(retirement.seqno),
         }
     }
 
     /// The seqno of the entry that marked a node, if one did.
-    #[tactic(auto, using(crate::proofs::HistoryIndex::mark_is))]
     pub fn mark(&self, id: &NodeId) -> Option<u64>
         ensures { result ≡ mark self.now id.now }
     {
@@ -155,7 +153,6 @@ impl History {
     }
 
     /// Whether the node's Mark stands.
-    #[tactic(auto, using(crate::proofs::HistoryIndex::marked_is))]
     pub fn is_marked(&self, id: &NodeId) -> bool
         ensures { result ≡ is_marked self.now id.now }
     {
@@ -171,23 +168,14 @@ impl History {
     }
 
     /// Whether the node's trust was applied.
-    #[tactic(auto, using(crate::proofs::HistoryIndex::trust_is))]
     fn is_trust_applied(&self, id: &NodeId) -> bool
         ensures { result ≡ is_trust_applied self.now id.now }
     {
         self.trusts().iter().any(|trust| *id == trust.id)
     }
 
-    /// Whether a founding named the node, or its trust was applied.
-    #[tactic(auto, unfolding(crate::specs::Nodes::was_trusted))]
-    fn was_trusted(&self, node: &RecordedNode) -> bool
-        ensures { result ≡ was_trusted self.now node.now }
-    {
-        node.is_founding || self.is_trust_applied(&node.id)
-    }
-
     /// The node's status.
-    #[tactic(auto, unfolding(crate::specs::Nodes::node_status))]
+    #[tactic(auto, unfolding(crate::specs::Nodes::node_status, crate::specs::Nodes::was_trusted))]
     pub fn node_status(&self, node: &RecordedNode) -> NodeStatus
         ensures { result ≡ node_status self.now node.now }
     {
@@ -195,7 +183,7 @@ impl History {
             NodeStatus::Marked
         } else if self.removal(node).is_some() {
             NodeStatus::Retired
-        } else if self.was_trusted(node) {
+        } else if node.is_founding || self.is_trust_applied(&node.id) {
             NodeStatus::Trusted
         } else {
             NodeStatus::Pending

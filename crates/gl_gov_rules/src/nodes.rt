@@ -5,12 +5,12 @@ ghost use Rattle.std.specs.Option.{option_copied};
 ghost use Rattle.gl_gov_rules.specs.declared.change.Changed as a_change;
 ghost use Rattle.gl_gov_rules.specs.Nodes.{recorded_node, nodes_recorded};
 ghost use Rattle.gl_gov_rules.specs.RequestFacts.{trust_in, retirement_in};
-ghost use Rattle.gl_gov_rules.specs.Index.{is_node_or_all, is_retirement_of};
+ghost use Rattle.gl_gov_rules.specs.Index.{is_node_or_all};
 
 use crate::change::{Changed, RecordedNode};
 use crate::history::History;
 use crate::refusal::NodeStatus;
-use crate::request_facts::{Retirement, retirement_in, trust_in};
+use crate::request_facts::{retirement_in, trust_in};
 use gl_index::is_any_after;
 use gl_requests::{GovernanceRequest, NewNode, NodeId};
 use std::alloc::{AllocError, Global};
@@ -85,13 +85,6 @@ fn is_node_or_all(id: &NodeId, other: &Option<NodeId>) -> bool
     }
 }
 
-/// Whether it takes this node out of service, after the node's own entry.
-fn is_retirement_of(node: &RecordedNode, retirement: &Retirement) -> bool
-    ensures { result ≡ is_retirement_of node.now retirement.now }
-{
-    node.seqno < retirement.seqno && is_node_or_all(&node.id, &retirement.id)
-}
-
 /// How many nodes the changes trust.
 pub(crate) fn trust_count(changes: &[Changed]) -> usize
     ensures { result
@@ -132,10 +125,8 @@ impl History {
         ensures { result
             ≡ option_map (λ (c : a_change.Changed). c.seqno) (retirement self.now node.now) }
     {
-        match self
-            .retirements()
-            .iter()
-            .find(|retirement| is_retirement_of(node, retirement))
+        match self.retirements().iter().find(|retirement| node.seqno < retirement.seqno
+            && is_node_or_all(&node.id, &retirement.id))
         {
             None => None,
             Some(retirement) => Some(retirement.seqno),

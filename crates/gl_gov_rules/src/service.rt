@@ -1,10 +1,8 @@
 //! What is in force: the constitution, the dealing of the recovery secret, the service's key and
 //! its state, and the shares that members gave.
 
-ghost use Rattle.std.specs.Prelude.{◌≡◌, is_some, filter_map, length, IfOk};
+ghost use Rattle.std.specs.Prelude.{◌≡◌, filter_map, length, IfOk};
 ghost use Rattle.std.specs.Option.{option_copied};
-ghost use Rattle.gl_vmaps.specs.LastWrite.{last_such};
-ghost use Rattle.gl_gov_rules.specs.declared.change.Changed as a_change;
 ghost use Rattle.gl_gov_rules.specs.Service.{sets_rules, sets_dealing, sets_identity, sets_state, clears_shares};
 ghost use Rattle.gl_gov_rules.specs.Index.{given_after};
 
@@ -26,17 +24,6 @@ fn sets_rules(change: &Change) -> Option<&[Rule]>
     }
 }
 
-/// The last change that sets the rules.
-fn last_rules(changes: &[Changed]) -> Option<&Changed>
-    ensures { option_copied result
-        ≡ last_such (λ (c : a_change.Changed). is_some (sets_rules c.change)) changes.now }
-{
-    changes
-        .iter()
-        .rev()
-        .find(|changed| sets_rules(&changed.change).is_some())
-}
-
 /// The dealing that the change sets.
 fn sets_dealing(change: &Change) -> Option<&Dealing>
     ensures { option_copied result ≡ sets_dealing change.now }
@@ -45,17 +32,6 @@ fn sets_dealing(change: &Change) -> Option<&Dealing>
         Change::Applied(Action::SetRecoveryThreshold(dealing)) => Some(dealing),
         _ => None,
     }
-}
-
-/// The last change that sets the dealing.
-fn last_dealing(changes: &[Changed]) -> Option<&Changed>
-    ensures { option_copied result
-        ≡ last_such (λ (c : a_change.Changed). is_some (sets_dealing c.change)) changes.now }
-{
-    changes
-        .iter()
-        .rev()
-        .find(|changed| sets_dealing(&changed.change).is_some())
 }
 
 /// The service's key that the change sets.
@@ -67,17 +43,6 @@ fn sets_identity(change: &Change) -> Option<&HssPublicKey>
         Change::Recovered(key) => Some(key),
         _ => None,
     }
-}
-
-/// The last change that sets the service's key.
-fn last_identity(changes: &[Changed]) -> Option<&Changed>
-    ensures { option_copied result
-        ≡ last_such (λ (c : a_change.Changed). is_some (sets_identity c.change)) changes.now }
-{
-    changes
-        .iter()
-        .rev()
-        .find(|changed| sets_identity(&changed.change).is_some())
 }
 
 /// The state that the change sets the service to.
@@ -96,18 +61,6 @@ fn sets_state(recovered: bool, change: &Change) -> Option<ServiceState>
     }
 }
 
-/// The last change that sets the service's state.
-fn last_state(changes: &[Changed], recovered: bool) -> Option<&Changed>
-    ensures { option_copied result
-        ≡ last_such (λ (c : a_change.Changed). is_some (sets_state recovered c.change))
-        changes.now }
-{
-    changes
-        .iter()
-        .rev()
-        .find(|changed| sets_state(recovered, &changed.change).is_some())
-}
-
 /// Whether the change clears the shares that were given.
 fn clears_shares(change: &Change) -> bool
     ensures { result ≡ clears_shares change.now }
@@ -116,17 +69,6 @@ fn clears_shares(change: &Change) -> bool
         change,
         Change::Applied(Action::SetRecoveryThreshold(_) | Action::TransitionServiceToOpen)
     )
-}
-
-/// The last change that clears the shares.
-fn last_clearing_change(changes: &[Changed]) -> Option<&Changed>
-    ensures { option_copied result
-        ≡ last_such (λ (c : a_change.Changed). clears_shares c.change) changes.now }
-{
-    changes
-        .iter()
-        .rev()
-        .find(|changed| clears_shares(&changed.change))
 }
 
 /// The share, where it was given after this seqno.
@@ -156,33 +98,45 @@ impl History {
     ghost use Rattle.gl_gov_rules.specs.Service.{constitution, dealing, identity, is_recovered, service_state, last_clearing, shares_given};
 
     /// The constitution in force, none before a founding.
-    #[tactic(auto, unfolding(crate::specs::Service::constitution))]
     pub fn constitution(&self) -> Option<&[Rule]>
         ensures { option_copied result ≡ constitution self.now }
     {
-        match last_rules(self.changes()) {
+        match self
+            .changes()
+            .iter()
+            .rev()
+            .find(|changed| sets_rules(&changed.change).is_some())
+        {
             None => None,
             Some(changed) => sets_rules(&changed.change),
         }
     }
 
     /// The dealing in force, none before a founding.
-    #[tactic(auto, unfolding(crate::specs::Service::dealing))]
     pub fn dealing(&self) -> Option<&Dealing>
         ensures { option_copied result ≡ dealing self.now }
     {
-        match last_dealing(self.changes()) {
+        match self
+            .changes()
+            .iter()
+            .rev()
+            .find(|changed| sets_dealing(&changed.change).is_some())
+        {
             None => None,
             Some(changed) => sets_dealing(&changed.change),
         }
     }
 
     /// The service's key, none before a founding.
-    #[tactic(auto, unfolding(crate::specs::Service::identity))]
     pub fn identity(&self) -> Option<&HssPublicKey>
         ensures { option_copied result ≡ identity self.now }
     {
-        match last_identity(self.changes()) {
+        match self
+            .changes()
+            .iter()
+            .rev()
+            .find(|changed| sets_identity(&changed.change).is_some())
+        {
             None => None,
             Some(changed) => sets_identity(&changed.change),
         }
@@ -199,23 +153,31 @@ impl History {
     }
 
     /// The service's state, none before a founding.
-    #[tactic(auto, unfolding(crate::specs::Service::service_state))]
     pub fn service_state(&self) -> Option<ServiceState>
         ensures { result ≡ service_state self.now }
     {
         let recovered = self.is_recovered();
-        match last_state(self.changes(), recovered) {
+        match self
+            .changes()
+            .iter()
+            .rev()
+            .find(|changed| sets_state(recovered, &changed.change).is_some())
+        {
             None => None,
             Some(changed) => sets_state(recovered, &changed.change),
         }
     }
 
     /// The seqno of the last change that cleared the shares that were given, or 0.
-    #[tactic(auto, unfolding(crate::specs::Service::last_clearing))]
     fn last_clearing(&self) -> u64
         ensures { result ≡ last_clearing self.now }
     {
-        match last_clearing_change(self.changes()) {
+        match self
+            .changes()
+            .iter()
+            .rev()
+            .find(|changed| clears_shares(&changed.change))
+        {
             None => 0,
             Some(changed) => changed.seqno,
         }

@@ -19,7 +19,6 @@ use Rattle.gl_gov_rules.specs.declared.change.Recorded.{Recorded}
 use Rattle.gl_gov_rules.specs.declared.change.Change.{Change}
 use Rattle.gl_gov_rules.specs.declared.change.Change.TheVariants as changes
 use Rattle.gl_gov_rules.specs.declared.change.Changed.{Changed}
-use Rattle.gl_gov_rules.specs.declared.change.Settling.{Settling}
 use Rattle.gl_gov_rules.specs.declared.request_facts.Mark.{Mark}
 use Rattle.gl_gov_rules.specs.declared.request_facts.GivenShare.{GivenShare}
 use Rattle.gl_gov_rules.specs.declared.request_facts.Signed.{Signed}
@@ -31,7 +30,7 @@ use Rattle.gl_gov_rules.specs.Nodes.{retirement, is_marked, is_trust_applied, ma
 use Rattle.gl_gov_rules.specs.Service.{last_clearing, shares_given, share_in, share_after}
 use Rattle.gl_gov_rules.specs.Proposals.{proposals, settling_in, settlings, is_ballot, is_answer_on, same_answer, has_answered, ballot_on, ballot_in, ballot_in_act, ballots_on, is_vote}
 use Rattle.gl_gov_rules.specs.RequestFacts.{removed_in, trust_in, retirement_in, mark_in, given_in, given_share, signed_by, signed_in}
-use Rattle.gl_gov_rules.specs.Index.{removed, trusts_of, retirements_of, marks_of, given, signed, made, AreLeavesSmall, last_leaf, next_or_zero, first_mark, is_node_or_all, is_retirement_of, first_retirement, given_after}
+use Rattle.gl_gov_rules.specs.Index.{removed, trusts_of, retirements_of, marks_of, given, signed, made, AreLeavesSmall, last_leaf, next_or_zero, first_mark, is_retirement_of, first_retirement, given_after}
 
 -- ---- any of what is reported
 

@@ -6,7 +6,7 @@ ghost use Rattle.std.specs.Option.{option_copied};
 ghost use Rattle.gl_gov_rules.specs.Service.{sets_rules, sets_dealing, sets_identity, sets_state, clears_shares};
 ghost use Rattle.gl_gov_rules.specs.Index.{given_after};
 
-use crate::change::{Change, Changed};
+use crate::change::Change;
 use crate::history::History;
 use crate::request_facts::GivenShare;
 use gl_index::push_some;

@@ -1,7 +1,7 @@
 //! The first change that settles each proposal.
 
 ghost use Rattle.std.specs.Prelude.{◌≡◌, ◌+◌, ◌≤◌, ◌++◌, List, map, take, length, slice_get, option_map, vec_len, vec_capacity};
-ghost use Rattle.std.specs.Option.{option_copied, option_or, option_to_list};
+ghost use Rattle.std.specs.Option.{option_or, option_to_list};
 ghost use Rattle.gl_gov_rules.specs.declared.change.Changed as a_change;
 ghost use Rattle.gl_gov_rules.specs.Proposals.{settling_in, settled_state, settling_up_to};
 

@@ -1,5 +1,5 @@
 -- What is kept beside a history answers as the requests and the changes do.
-use Rattle.std.proofs.Common.{◌≡◌, ℕ, suc, ◌-◌, ◌≤◌, List, [], ◌∷◌, Option, None, Some, Bool, true, false, ◌&&◌, ◌||◌, nat_eq, nat_lt, cond, find, length, slice_get, option_map, filter, is_some, refl, sym, ◌∙◌, ap, arith}
+use Rattle.std.proofs.Common.{◌≡◌, ℕ, suc, ◌-◌, ◌≤◌, List, [], ◌∷◌, Option, None, Some, Bool, true, false, ◌&&◌, ◌||◌, nat_eq, nat_lt, cond, find, length, slice_get, option_map, map, filter, is_some, refl, sym, ◌∙◌, ap, arith}
 use Rattle.std.specs.List.{list_any, filter_map, cons_option, count_by}
 use Rattle.std.specs.Option.{option_or}
 use Rattle.std.proofs.lemmas.List.Sums.{length-filter}
@@ -14,6 +14,7 @@ use Rattle.gl_requests.specs.declared.request.MemberAct.{MemberAct}
 use Rattle.gl_requests.specs.declared.request.MemberAct.TheVariants as acts
 use Rattle.gl_requests.specs.declared.request.GovernanceRequest.{GovernanceRequest}
 use Rattle.gl_requests.specs.declared.request.GovernanceRequest.TheVariants as requests
+use Rattle.gl_gov_rules.specs.History.{History}
 use Rattle.gl_gov_rules.specs.declared.change.Recorded.{Recorded}
 use Rattle.gl_gov_rules.specs.declared.change.Change.{Change}
 use Rattle.gl_gov_rules.specs.declared.change.Change.TheVariants as changes
@@ -21,15 +22,15 @@ use Rattle.gl_gov_rules.specs.declared.change.Changed.{Changed}
 use Rattle.gl_gov_rules.specs.declared.request_facts.Mark.{Mark}
 use Rattle.gl_gov_rules.specs.declared.request_facts.GivenShare.{GivenShare}
 use Rattle.gl_gov_rules.specs.declared.request_facts.Signed.{Signed}
-use Rattle.gl_gov_rules.specs.Members.{removes_member, is_ack_by, is_by, leaf_after, leaf_after_last}
+use Rattle.gl_gov_rules.specs.Members.{is_removed, has_acked, removes_member, is_ack_by, is_by, leaf_after, leaf_after_last}
 use Rattle.gl_gov_rules.specs.declared.change.RecordedNode.{RecordedNode}
 use Rattle.gl_gov_rules.specs.declared.request_facts.Trust.{Trust}
 use Rattle.gl_gov_rules.specs.declared.request_facts.Retirement.{Retirement}
-use Rattle.gl_gov_rules.specs.Nodes.{marks, trusts, retires}
-use Rattle.gl_gov_rules.specs.Service.{share_in, share_after}
-use Rattle.gl_gov_rules.specs.Proposals.{is_ballot, is_answer_on, same_answer, has_answered, ballot_on, ballot_in, ballot_in_act, ballots_on, is_vote}
+use Rattle.gl_gov_rules.specs.Nodes.{retirement, is_marked, is_trust_applied, mark, marks, trusts, retires}
+use Rattle.gl_gov_rules.specs.Service.{last_clearing, shares_given, share_in, share_after}
+use Rattle.gl_gov_rules.specs.Proposals.{proposals, settling_in, settlings, is_ballot, is_answer_on, same_answer, has_answered, ballot_on, ballot_in, ballot_in_act, ballots_on, is_vote}
 use Rattle.gl_gov_rules.specs.RequestFacts.{removed_in, trust_in, retirement_in, mark_in, given_in, given_share, signed_by, signed_in}
-use Rattle.gl_gov_rules.specs.Index.{AreLeavesSmall, last_leaf, next_or_zero, first_mark, is_node_or_all, is_retirement_of, first_retirement, given_after}
+use Rattle.gl_gov_rules.specs.Index.{removed, trusts_of, retirements_of, marks_of, given, signed, made, AreLeavesSmall, last_leaf, next_or_zero, first_mark, is_retirement_of, first_retirement, given_after}
 
 -- ---- any of what is reported
 
@@ -75,7 +76,7 @@ removed_by n (changes.Applied a) = by a
     by actions.TransitionServiceToOpen = refl
     by (actions.SetConstitution rules) = refl
 
-pub removed_any : (n : ℕ) (cs : List Changed) →
+removed_any : (n : ℕ) (cs : List Changed) →
     list_any (λ (c : Changed). removes_member n c.change) cs ≡ list_any (λ (m : ℕ). nat_eq m n) (filter_map (λ (c : Changed). removed_in c.change) cs)
 removed_any n cs = any_reported (λ (c : Changed). removes_member n c.change) (λ (c : Changed). removed_in c.change) (λ (m : ℕ). nat_eq m n) (λ c. removed_by n c.change) cs
 
@@ -90,7 +91,7 @@ acked_by n seqno (requests.Join x) = refl
 acked_by n seqno (requests.Mark id) = refl
 acked_by n seqno (requests.Member m) = acked_if (nat_eq m.member n) (signed_in seqno m)
 
-pub acked_any : (n : ℕ) (rs : List Recorded) →
+acked_any : (n : ℕ) (rs : List Recorded) →
     list_any (λ (r : Recorded). is_ack_by n r.request) rs ≡ list_any (λ (t : Signed). t.is_ack) (filter_map (λ (r : Recorded). signed_by n r.seqno r.request) rs)
 acked_any n rs = any_reported (λ (r : Recorded). is_ack_by n r.request) (λ (r : Recorded). signed_by n r.seqno r.request) (λ (t : Signed). t.is_ack) (λ r. acked_by n r.seqno r.request) rs
 
@@ -103,7 +104,7 @@ marked_by id seqno (requests.Join x) = refl
 marked_by id seqno (requests.Mark other) = alone (same_bytes id other)
 marked_by id seqno (requests.Member m) = refl
 
-pub marked_any : (id : List ℕ) (rs : List Recorded) →
+marked_any : (id : List ℕ) (rs : List Recorded) →
     list_any (λ (r : Recorded). marks id r.request) rs ≡ list_any (λ (m : Mark). same_bytes id m.id) (filter_map (λ (r : Recorded). mark_in r.seqno r.request) rs)
 marked_any id rs = any_reported (λ (r : Recorded). marks id r.request) (λ (r : Recorded). mark_in r.seqno r.request) (λ (m : Mark). same_bytes id m.id) (λ r. marked_by id r.seqno r.request) rs
 
@@ -161,7 +162,7 @@ trust_by id seqno (changes.Applied a) = by a
     by actions.TransitionServiceToOpen = refl
     by (actions.SetConstitution rules) = refl
 
-pub trust_any : (id : List ℕ) (cs : List Changed) →
+trust_any : (id : List ℕ) (cs : List Changed) →
     list_any (λ (c : Changed). trusts id c.change) cs ≡ list_any (λ (t : Trust). same_bytes id t.id) (filter_map (λ (c : Changed). trust_in c.seqno c.change) cs)
 trust_any id cs =
     any_reported (λ (c : Changed). trusts id c.change) (λ (c : Changed). trust_in c.seqno c.change) (λ (t : Trust). same_bytes id t.id) (λ c. trust_by id c.seqno c.change) cs
@@ -192,7 +193,7 @@ retirement_reported n c (changes.Applied a) = by a
     by actions.TransitionServiceToOpen = change_never c (nat_lt n.seqno c.seqno)
     by (actions.SetConstitution rules) = change_never c (nat_lt n.seqno c.seqno)
 
-pub retirement_first : (n : RecordedNode) (cs : List Changed) →
+retirement_first : (n : RecordedNode) (cs : List Changed) →
     option_map (λ (c : Changed). c.seqno) (find (λ (c : Changed). nat_lt n.seqno c.seqno && retires n.id c.change) cs)
     ≡ first_retirement n (filter_map (λ (c : Changed). retirement_in c.seqno c.change) cs)
 retirement_first n cs =
@@ -256,7 +257,7 @@ share_reported : (q s : ℕ) (o : Option Share) → cond (nat_lt q s) o None ≡
 share_reported q s None = none_either (nat_lt q s)
 share_reported q s (Some share) = refl
 
-pub given_since : (q : ℕ) (rs : List Recorded) → filter_map (share_after q) rs ≡ filter_map (given_after q) (filter_map (λ (r : Recorded). given_in r.seqno r.request) rs)
+given_since : (q : ℕ) (rs : List Recorded) → filter_map (share_after q) rs ≡ filter_map (given_after q) (filter_map (λ (r : Recorded). given_in r.seqno r.request) rs)
 given_since q rs = map_reported (share_after q) (λ (r : Recorded). given_in r.seqno r.request) (given_after q) (λ r. share_reported q r.seqno (share_in r.request)) rs
 
 count_given : (q : ℕ) (gs : List GivenShare) → length (filter (λ (g : GivenShare). nat_lt q g.seqno) gs) ≡ length (filter_map (given_after q) gs)
@@ -269,7 +270,7 @@ count_given q (g ∷ gs) = by (nat_lt q g.seqno) (count_given q gs)
     by true rest = ap suc rest
     by false rest = rest
 
-pub given_count : (q : ℕ) (rs : List Recorded) →
+given_count : (q : ℕ) (rs : List Recorded) →
     count_by (λ (g : GivenShare). nat_lt q g.seqno) (filter_map (λ (r : Recorded). given_in r.seqno r.request) rs) ≡ length (filter_map (share_after q) rs)
 given_count q rs =
     let gs = filter_map (λ (r : Recorded). given_in r.seqno r.request) rs in
@@ -360,3 +361,41 @@ pub last_small : (n : ℕ) (rs : List Recorded) → AreLeavesSmall rs → leaf_a
 last_small n [] small = omega arith
 last_small n (r ∷ rs) small =
     rw (last_such-cons (λ (x : Recorded). is_by n x.request) r rs) (small_or _ _ (last_small n rs small.1) (small_if r (is_by n r.request) small.0))
+
+-- ---- what a history answers
+
+pub removed_is : (h : History) (n : ℕ) → is_removed h n ≡ list_any (λ (m : ℕ). nat_eq m n) (removed h)
+unfolding is_removed removed
+removed_is h n = removed_any n h.changes
+
+pub acked_is : (h : History) (n : ℕ) → has_acked h n ≡ list_any (λ (t : Signed). t.is_ack) (signed n h)
+unfolding has_acked signed
+acked_is h n = acked_any n h.requests
+
+pub marked_is : (h : History) (id : List ℕ) → is_marked h id ≡ list_any (λ (m : Mark). same_bytes id m.id) (marks_of h)
+unfolding is_marked marks_of
+marked_is h id = marked_any id h.requests
+
+pub mark_is : (h : History) (id : List ℕ) → mark h id ≡ first_mark id (marks_of h)
+unfolding mark marks_of
+mark_is h id = mark_first id h.requests
+
+pub trust_is : (h : History) (id : List ℕ) → is_trust_applied h id ≡ list_any (λ (t : Trust). same_bytes id t.id) (trusts_of h)
+unfolding is_trust_applied trusts_of
+trust_is h id = trust_any id h.changes
+
+pub removal_is : (h : History) (n : RecordedNode) → option_map (λ (c : Changed). c.seqno) (retirement h n) ≡ first_retirement n (retirements_of h)
+unfolding retirement retirements_of
+removal_is h n = retirement_first n h.changes
+
+pub shares_are : (h : History) → shares_given h ≡ filter_map (given_after (last_clearing h)) (given h)
+unfolding shares_given given
+shares_are h = given_since (last_clearing h) h.requests
+
+pub shares_count : (h : History) → length (shares_given h) ≡ count_by (λ (g : GivenShare). nat_lt (last_clearing h) g.seqno) (given h)
+unfolding shares_given given
+shares_count h = sym (given_count (last_clearing h) h.requests)
+
+pub settlings_are : (h : History) → settlings h ≡ map (settling_in h.changes) (made h.requests)
+unfolding settlings proposals
+settlings_are h = refl

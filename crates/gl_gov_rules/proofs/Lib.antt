@@ -1,9 +1,7 @@
 pub mod Answered
-mod ListsByNumber
 mod ByRequests
 pub mod Settled
 mod FactsAtSeqno
-mod Answers
 pub mod HistoryIndex
 pub mod Rising
 pub mod Cutting

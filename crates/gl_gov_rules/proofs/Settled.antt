@@ -27,7 +27,7 @@ use Rattle.gl_requests.specs.declared.action.Action.TheVariants as actions
 use Rattle.gl_gov_rules.specs.declared.change.Change.{Change}
 use Rattle.gl_gov_rules.specs.declared.change.Change.TheVariants as changes
 use Rattle.gl_gov_rules.specs.Index.{is_same_proposal}
-use Rattle.gl_gov_rules.specs.Proposals.{dropped_if, is_open_state, proposal_in, state_settled, first_or_open, proposal_state, settling_by, first_settling, settling_in, settled_state, settling_up_to}
+use Rattle.gl_gov_rules.specs.Proposals.{proposals, settlings, open_count, dropped_if, is_open_state, proposal_in, state_settled, first_or_open, proposal_state, settling_by, first_settling, settling_in, settled_state, settling_up_to}
 
 -- ---- the state
 
@@ -227,10 +227,14 @@ count_settled h (p ∷ ps) = by (is_open_state (proposal_state h p)) (is_open_st
     by false true e rest = absurd cc
     by false false e rest = rest
 
-pub open_settled : (h : History) (ps : List Proposal) → count_by (λ (o : Option Settling). is_open_state (settled_state o)) (map (settling_in h.changes) ps) ≡ count_by (λ (p : Proposal). is_open_state (proposal_state h p)) ps
+open_settled : (h : History) (ps : List Proposal) → count_by (λ (o : Option Settling). is_open_state (settled_state o)) (map (settling_in h.changes) ps) ≡ count_by (λ (p : Proposal). is_open_state (proposal_state h p)) ps
 open_settled h ps =
     sym (length-filter (λ (o : Option Settling). is_open_state (settled_state o)) (map (settling_in h.changes) ps)) ∙ count_settled h ps
     ∙ length-filter (λ (p : Proposal). is_open_state (proposal_state h p)) ps
+
+pub open_is : (h : History) → open_count h ≡ count_by (λ (o : Option Settling). is_open_state (settled_state o)) (settlings h)
+unfolding open_count settlings
+open_is h = sym (open_settled h (proposals h))
 
 -- ---- the same proposal
 

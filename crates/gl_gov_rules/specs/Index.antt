@@ -1,7 +1,7 @@
 -- What stands beside the requests and the changes of a history, so that no question about members,
 -- nodes, proposals or shares goes through all requests.
-use Rattle.std.specs.Prelude.{◌≡◌, ℕ, ◌+◌, ◌-◌, ◌≤◌, ◌<◌, List, Option, None, Some, true, length, find, map, filter_map, option_map, slice_get, nat_lt, nat_eq, Bool, ◌&&◌, if◌then◌else◌, vec_len, vec_capacity}
-use Rattle.std.specs.List.{AllByRecursion, position_or_len, flat_map, list_any}
+use Rattle.std.specs.Prelude.{◌≡◌, ℕ, ◌+◌, ◌-◌, ◌≤◌, List, Option, None, Some, true, length, find, map, filter_map, option_map, slice_get, nat_lt, nat_eq, Bool, ◌&&◌, if◌then◌else◌, vec_len, vec_capacity}
+use Rattle.std.specs.List.{AllByRecursion, flat_map, list_any}
 use Rattle.std.specs.declared.vec.Vec.{Vec}
 use Rattle.std.specs.declared.alloc.Global.{Global}
 use Rattle.gl_base.specs.Bytes.{same_bytes}
@@ -22,11 +22,12 @@ use Rattle.gl_gov_rules.specs.declared.request_facts.Trust.{Trust}
 use Rattle.gl_gov_rules.specs.declared.request_facts.Retirement.{Retirement}
 use Rattle.gl_gov_rules.specs.History.{History}
 use Rattle.gl_shares.specs.declared.share.Share.{Share}
-use Rattle.gl_gov_rules.specs.declared.ballots.Ballots.{Ballots}
 use Rattle.gl_gov_rules.specs.declared.index.ByChange.{ByChange}
 use Rattle.gl_gov_rules.specs.declared.index.ByRequest.{ByRequest}
 use Rattle.gl_gov_rules.specs.declared.index.Added.{Added}
-use Rattle.gl_gov_rules.specs.Lists.{lists_of, list_at, HasRoomAt}
+use Rattle.gl_index.specs.declared.keyed_lists.KeyedLists.{KeyedLists}
+use Rattle.gl_index.specs.Lists.{lists_of, list_at, HasRoomAt}
+use Rattle.gl_index.specs.KeyedLists.{list_on, HasRoomOn}
 use Rattle.gl_gov_rules.specs.Members.{member_named, leaf_after}
 use Rattle.gl_gov_rules.specs.Nodes.{nodes_recorded}
 use Rattle.gl_gov_rules.specs.Proposals.{proposal_in, ballot_on, settling_in}
@@ -37,24 +38,12 @@ abbrev pub HasRoomForSigner : List (Vec Signed Global) → GovernanceRequest →
 HasRoomForSigner vs (requests.Member m) = HasRoomAt vs m.member
 HasRoomForSigner vs other = Unit {0}
 
--- The place of an identifier, the number of them where it isn't among them.
-abbrev pub place_of : List (List ℕ) → List ℕ → ℕ
-place_of ids id = position_or_len (same_bytes id) ids
-
--- The ballots on a proposal.
-abbrev pub ballots_in : Ballots → List ℕ → List Ballot
-ballots_in b id = list_at (lists_of b.lists.items) (place_of b.ids.items id)
-
--- There is room for one more on a proposal, and for the ballot that a request gives.
-pub record HasRoomForBallot (b : Ballots) (id : List ℕ) : Type 0 where
-  pub known : place_of b.ids.items id < length b.ids.items
-  pub room : HasRoomAt b.lists.items (place_of b.ids.items id)
-
-abbrev pub HasRoomForAct : Ballots → MemberAct → Type 0
-HasRoomForAct b (acts.Ballot id agrees) = HasRoomForBallot b id
+-- There is room for the ballot that a request gives.
+abbrev pub HasRoomForAct : KeyedLists Ballot → MemberAct → Type 0
+HasRoomForAct b (acts.Ballot id agrees) = HasRoomOn b id
 HasRoomForAct b other = Unit {0}
 
-abbrev pub HasRoomForAnswer : Ballots → GovernanceRequest → Type 0
+abbrev pub HasRoomForAnswer : KeyedLists Ballot → GovernanceRequest → Type 0
 HasRoomForAnswer b (requests.Member m) = HasRoomForAct b m.act
 HasRoomForAnswer b other = Unit {0}
 
@@ -81,7 +70,7 @@ pub record IsOfRequests (rs : List Recorded) (x : ByRequest) : Type 0 where
       ≡ filter_map (λ (r : Recorded). proposal_in r.seqno r.request) rs
   pub signed : (n : ℕ) → list_at (lists_of x.signed.items) n
       ≡ filter_map (λ (r : Recorded). signed_by n r.seqno r.request) rs
-  pub ballots : (id : List ℕ) → ballots_in x.ballots id ≡ filter_map (ballot_on id) rs
+  pub ballots : (id : List ℕ) → list_on x.ballots id ≡ filter_map (ballot_on id) rs
   pub known : vec_len x.ballots.lists ≤ vec_len x.ballots.ids
   pub leaves : AreLeavesSmall rs
 

@@ -13,6 +13,5 @@ pub mod Refusals
 pub mod Governed
 pub mod Rising
 pub mod Numbers
-pub mod Lists
 pub mod RequestFacts
 pub mod Index

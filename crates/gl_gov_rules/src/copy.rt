@@ -1,29 +1,10 @@
 //! What a history holds once more, in memory of its own. Each copy fails only where memory runs
 //! out.
 
-ghost use Rattle.std.specs.Prelude.{◌≡◌, IfOk};
-
 use crate::change::{Change, Changed, Proposal, Recorded, RecordedNode};
+use gl_index::Duplicate;
 use gl_requests::copy_actions;
 use std::alloc::{AllocError, Global};
-
-/// What a history holds a list of.
-pub(crate) trait Duplicate: Drop {
-    /// The same once more.
-    fn copy(&self, alloc: Global) -> Result<Self, AllocError>
-        ensures { IfOk result (λ copy. copy ≡ self.now) };
-}
-
-/// All of a list once more.
-pub(crate) fn copy_all<T: Duplicate>(alloc: Global, items: &[T]) -> Result<Vec<T>, AllocError>
-    ensures { IfOk result (λ copy. copy.items ≡ items.now) }
-{
-    let mut out = Vec::new(alloc);
-    for item in items {
-        out.push(item.copy(alloc)?)?;
-    }
-    Ok(out)
-}
 
 impl Duplicate for Recorded {
     fn copy(&self, alloc: Global) -> Result<Recorded, AllocError> {
@@ -35,25 +16,17 @@ impl Duplicate for Recorded {
     }
 }
 
-fn copy_change(alloc: Global, change: &Change) -> Result<Change, AllocError>
-    ensures { IfOk result (λ copy. copy ≡ change.now) }
-{
-    match change {
-        Change::Founded(state, key) => Ok(Change::Founded(*state, *key)),
-        Change::Recovered(key) => Ok(Change::Recovered(*key)),
-        Change::Applied(action) => Ok(Change::Applied(action.copy(alloc)?)),
-        Change::Settled(id, state) => Ok(Change::Settled(*id, *state)),
-        Change::Completed => Ok(Change::Completed),
-    }
-}
-
 impl Duplicate for Changed {
     fn copy(&self, alloc: Global) -> Result<Changed, AllocError> {
-        let change = copy_change(alloc, &self.change)?;
-        Ok(Changed {
-            seqno: self.seqno,
-            change,
-        })
+        let seqno = self.seqno;
+        let change = match &self.change {
+            Change::Founded(state, key) => Change::Founded(*state, *key),
+            Change::Recovered(key) => Change::Recovered(*key),
+            Change::Applied(action) => Change::Applied(action.copy(alloc)?),
+            Change::Settled(id, state) => Change::Settled(*id, *state),
+            Change::Completed => Change::Completed,
+        };
+        Ok(Changed { seqno, change })
     }
 }
 

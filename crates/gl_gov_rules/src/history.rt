@@ -3,12 +3,11 @@
 ghost use Rattle.gl_requests.specs.Ranges.{is_request};
 
 use crate::change::{Ballot, Changed, Proposal, Recorded, RecordedNode, Settling};
-use crate::copy::copy_all;
 use crate::cut::changes_up_to;
-use crate::index::{Added, ByChange, ByRequest, append_reserved};
-use crate::lists::{cut_list, list_at};
+use crate::index::{Added, ByChange, ByRequest};
 use crate::request_facts::{GivenShare, Mark, Retirement, Signed, Trust};
 use crate::settlings::{cut_settlings, push_settling, settle};
+use gl_index::{append_reserved, copy_all, cut_list, list_at};
 use gl_requests::{Digest, NewMember};
 use std::alloc::{AllocError, Global};
 use std::marker::Model;
@@ -223,7 +222,7 @@ impl History {
     }
 
     /// What settled each proposal, in their order, none where it is open.
-    #[tactic(auto, unfolding(crate::specs::Proposals::settlings, crate::specs::Proposals::proposals))]
+    #[tactic(auto, using(crate::proofs::HistoryIndex::settlings_are))]
     pub fn settlings(&self) -> &[Option<Settling>]
         ensures { result.now ≡ settlings self.now }
     {

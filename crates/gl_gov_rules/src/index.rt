@@ -1,8 +1,7 @@
 //! What stands beside the requests and the changes of a history, so that no question about members,
 //! nodes, proposals or shares goes through all requests.
 
-ghost use Rattle.std.specs.Prelude.{◌≡◌, ℕ, ◌+◌, ◌≤◌, ◌++◌, ◌∷◌, [], List, take, vec_len, vec_capacity, true, IfOk, OnOk};
-ghost use Rattle.std.specs.Option.{option_to_list};
+ghost use Rattle.std.specs.Prelude.{◌≡◌, ℕ, ◌≤◌, ◌++◌, ◌∷◌, [], List, take, vec_len, true, IfOk, OnOk};
 ghost use Rattle.gl_requests.specs.Ranges.{is_request};
 ghost use Rattle.gl_gov_rules.specs.declared.change.Recorded.{Recorded};
 ghost use Rattle.gl_gov_rules.specs.declared.change.Changed.{Changed};
@@ -10,16 +9,18 @@ ghost use Rattle.gl_gov_rules.specs.Governed.{up_to};
 ghost use Rattle.gl_gov_rules.specs.Rising.{IsRising};
 ghost use Rattle.gl_gov_rules.specs.Index.{IsOfChanges, IsOfRequests, IsOfRequest, HasRoomForAdded, HasRoomForNamed};
 
-use crate::ballots::Ballots;
-use crate::change::{Changed, Proposal, Recorded, RecordedNode};
-use crate::copy::copy_all;
-use crate::lists::{copy_lists, cut_list, cut_lists};
-use crate::members::{named_count, push_member_named, push_removed, removed_count};
+use crate::ballots::{push_answer, reserve_answer};
+use crate::change::{Ballot, Changed, Proposal, Recorded, RecordedNode};
+use crate::members::{member_named, named_count, removed_count};
 use crate::nodes::{push_nodes_recorded, retirement_count, trust_count};
 use crate::proposals::proposal_in;
 use crate::request_facts::{
-    GivenShare, Mark, Retirement, Signed, Trust, given_in, mark_in, push_signer, reserve_signer,
-    retirement_in, trust_in,
+    GivenShare, Mark, Retirement, Signed, Trust, given_in, mark_in, push_signer, removed_in,
+    reserve_signer, retirement_in, trust_in,
+};
+use gl_index::{
+    KeyedLists, append_reserved, copy_all, copy_lists, cut_list, cut_lists, push_some,
+    push_some_reserved,
 };
 use gl_requests::{GovernanceRequest, NewMember};
 use std::alloc::{AllocError, Global};
@@ -46,7 +47,8 @@ pub(crate) struct ByRequest {
     pub(crate) proposals: Vec<Proposal>,
     /// For each member's number, what the requests tell that it signed.
     pub(crate) signed: Vec<Vec<Signed>>,
-    pub(crate) ballots: Ballots,
+    /// The ballots on each proposal.
+    pub(crate) ballots: KeyedLists<Ballot>,
 }
 
 /// What one request tells that needs memory of its own.
@@ -54,40 +56,6 @@ pub(crate) struct ByRequest {
 pub(crate) struct Added {
     nodes: Vec<RecordedNode>,
     proposal: Option<Proposal>,
-}
-
-/// Moves more to the end of a list that has room for it.
-pub(crate) fn append_reserved<T: Drop>(list: &mut Vec<T>, more: Vec<T>)
-    requires { vec_len list.old + vec_len more ≤ vec_capacity list.old }
-    ensures { list.new.items ≡ list.old.items ++ more.items }
-{
-    let mut more = more;
-    if list.append(&mut more).is_err() {
-        unreachable!();
-    }
-}
-
-/// Adds an item, where there is one, to a list.
-fn add_some<T: Drop>(list: &mut Vec<T>, item: Option<T>) -> Result<(), AllocError>
-    ensures { OnOk result (list.new.items ≡ list.old.items ++ option_to_list item) }
-{
-    match item {
-        None => Ok(()),
-        Some(item) => {
-            list.push(item)?;
-            Ok(())
-        }
-    }
-}
-
-/// Adds an item, where there is one, to a list that has room for it.
-fn push_some<T: Drop>(list: &mut Vec<T>, item: Option<T>)
-    requires { vec_len list.old + 1 ≤ vec_capacity list.old }
-    ensures { list.new.items ≡ list.old.items ++ option_to_list item }
-{
-    if let Some(item) = item {
-        list.push_reserved(item);
-    }
 }
 
 impl ByChange {
@@ -108,11 +76,11 @@ impl ByChange {
         ensures { OnOk result ((cs : List Changed) →
             IsOfChanges cs self.old → IsOfChanges (cs ++ changed.now ∷ []) self.new) }
     {
-        push_member_named(&mut self.members, &changed.change)?;
-        push_removed(&mut self.removed, &changed.change)?;
-        add_some(&mut self.trusts, trust_in(changed.seqno, &changed.change))?;
+        push_some(&mut self.members, member_named(&changed.change))?;
+        push_some(&mut self.removed, removed_in(&changed.change))?;
+        push_some(&mut self.trusts, trust_in(changed.seqno, &changed.change))?;
         let retirement = retirement_in(changed.seqno, &changed.change);
-        add_some(&mut self.retirements, retirement)?;
+        push_some(&mut self.retirements, retirement)?;
         Ok(())
     }
 
@@ -203,7 +171,7 @@ impl ByRequest {
             shares: Vec::new(alloc),
             proposals: Vec::new(alloc),
             signed: Vec::new(alloc),
-            ballots: Ballots::new(alloc),
+            ballots: KeyedLists::new(alloc),
         }
     }
 
@@ -238,7 +206,7 @@ impl ByRequest {
         self.shares.reserve(1)?;
         self.proposals.reserve(1)?;
         reserve_signer(alloc, &mut self.signed, request)?;
-        self.ballots.reserve(alloc, request)
+        reserve_answer(alloc, &mut self.ballots, request)
     }
 
     /// Adds what one more request tells.
@@ -250,11 +218,11 @@ impl ByRequest {
     {
         let seqno = recorded.seqno;
         append_reserved(&mut self.nodes, added.nodes);
-        push_some(&mut self.marks, mark_in(seqno, &recorded.request));
-        push_some(&mut self.shares, given_in(seqno, &recorded.request));
-        push_some(&mut self.proposals, added.proposal);
+        push_some_reserved(&mut self.marks, mark_in(seqno, &recorded.request));
+        push_some_reserved(&mut self.shares, given_in(seqno, &recorded.request));
+        push_some_reserved(&mut self.proposals, added.proposal);
         push_signer(&mut self.signed, seqno, &recorded.request);
-        self.ballots.push(seqno, &recorded.request);
+        push_answer(&mut self.ballots, seqno, &recorded.request);
     }
 
     /// Cuts it back to what the requests up to a seqno tell.

@@ -24,7 +24,6 @@ mod history;
 mod index;
 mod laws;
 mod leaf;
-mod lists;
 mod members;
 mod node_law;
 mod nodes;

@@ -1,9 +1,7 @@
 //! Who the members are and were, and the status of each.
 
-ghost use Rattle.std.specs.Prelude.{◌≡◌, ◌≤◌, ◌++◌, count_by, is_some, nat_eq, OnOk};
-ghost use Rattle.std.specs.Option.{option_copied, option_to_list};
-ghost use Rattle.std.specs.List.{list_any};
-ghost use Rattle.gl_gov_rules.specs.declared.request_facts.Signed as a_signed;
+ghost use Rattle.std.specs.Prelude.{◌≡◌, ◌≤◌, count_by, is_some};
+ghost use Rattle.std.specs.Option.{option_copied};
 ghost use Rattle.gl_gov_rules.specs.declared.change.Changed as a_change;
 ghost use Rattle.gl_gov_rules.specs.Members.{member_named};
 ghost use Rattle.gl_gov_rules.specs.RequestFacts.{removed_in};
@@ -14,54 +12,15 @@ use crate::history::History;
 use crate::refusal::MemberStatus;
 use crate::request_facts::{Signed, removed_in};
 use gl_requests::{Action, NewMember};
-use std::alloc::AllocError;
 
 /// The member whom the change names.
-fn member_named(change: &Change) -> Option<NewMember>
+pub(crate) fn member_named(change: &Change) -> Option<NewMember>
     ensures { result ≡ member_named change.now }
 {
     match change {
         Change::Applied(Action::SetMember(member)) => Some(*member),
         _ => None,
     }
-}
-
-/// Adds the member whom the change names.
-pub(crate) fn push_member_named(
-    members: &mut Vec<NewMember>,
-    change: &Change,
-) -> Result<(), AllocError>
-    ensures { OnOk result
-        (members.new.items ≡ members.old.items ++ option_to_list (member_named change.now)) }
-{
-    match member_named(change) {
-        None => Ok(()),
-        Some(member) => {
-            members.push(member)?;
-            Ok(())
-        }
-    }
-}
-
-/// Adds the number of the member whose removal the change applies.
-pub(crate) fn push_removed(removed: &mut Vec<u8>, change: &Change) -> Result<(), AllocError>
-    ensures { OnOk result
-        (removed.new.items ≡ removed.old.items ++ option_to_list (removed_in change.now)) }
-{
-    match removed_in(change) {
-        None => Ok(()),
-        Some(number) => {
-            removed.push(number)?;
-            Ok(())
-        }
-    }
-}
-
-/// Whether the change names a member.
-fn names_member(change: &Change) -> bool
-    ensures { result ≡ is_some (member_named change.now) }
-{
-    matches!(change, Change::Applied(Action::SetMember(_)))
 }
 
 /// How many members the changes name.
@@ -71,7 +30,7 @@ pub(crate) fn named_count(changes: &[Changed]) -> usize
 {
     changes
         .iter()
-        .filter(|changed| names_member(&changed.change))
+        .filter(|changed| member_named(&changed.change).is_some())
         .count()
 }
 
@@ -84,20 +43,6 @@ pub(crate) fn removed_count(changes: &[Changed]) -> usize
         .iter()
         .filter(|changed| removed_in(&changed.change).is_some())
         .count()
-}
-
-/// Whether the number is one of these.
-fn is_among(number: u8, numbers: &[u8]) -> bool
-    ensures { result ≡ list_any (λ other. nat_eq other number) numbers.now }
-{
-    numbers.iter().any(|other| *other == number)
-}
-
-/// Whether one of these is an Ack.
-fn has_ack(signed: &[Signed]) -> bool
-    ensures { result ≡ list_any (λ (s : a_signed.Signed). s.is_ack) signed.now }
-{
-    signed.iter().any(|signed| signed.is_ack)
 }
 
 /// 1 plus the leaf of the last of these, 0 without one.
@@ -125,14 +70,14 @@ impl History {
     pub fn is_removed(&self, number: u8) -> bool
         ensures { result ≡ is_removed self.now number }
     {
-        is_among(number, self.removed())
+        self.removed().iter().any(|other| *other == number)
     }
 
     /// Whether the member's Ack stands.
     pub fn has_acked(&self, number: u8) -> bool
         ensures { result ≡ has_acked self.now number }
     {
-        has_ack(self.signed(number))
+        self.signed(number).iter().any(|signed| signed.is_ack)
     }
 
     /// The member's status.

@@ -1,22 +1,18 @@
 //! Which nodes were recorded, and the status of each.
 
-ghost use Rattle.std.specs.Prelude.{◌≡◌, ◌++◌, ◌∷◌, [], true, false, map, option_map, count_by, is_some, IfOk, OnOk};
+ghost use Rattle.std.specs.Prelude.{◌≡◌, ◌++◌, true, map, option_map, count_by, is_some, IfOk, OnOk};
 ghost use Rattle.std.specs.Option.{option_copied};
-ghost use Rattle.std.specs.List.{list_any};
-ghost use Rattle.gl_base.specs.Bytes.{same_bytes};
-ghost use Rattle.gl_gov_rules.specs.declared.request_facts.Mark as a_mark;
 ghost use Rattle.gl_gov_rules.specs.declared.change.Changed as a_change;
-ghost use Rattle.gl_gov_rules.specs.declared.request_facts.Trust as a_trust;
-ghost use Rattle.gl_gov_rules.specs.Nodes.{recorded_node, nodes_recorded, retires};
+ghost use Rattle.gl_gov_rules.specs.Nodes.{recorded_node, nodes_recorded};
 ghost use Rattle.gl_gov_rules.specs.RequestFacts.{trust_in, retirement_in};
-ghost use Rattle.gl_gov_rules.specs.Index.{first_mark, is_node_or_all, is_retirement_of, first_retirement};
+ghost use Rattle.gl_gov_rules.specs.Index.{is_node_or_all};
 
-use crate::change::{Change, Changed, RecordedNode};
+use crate::change::{Changed, RecordedNode};
 use crate::history::History;
-use crate::lists::is_any_after;
 use crate::refusal::NodeStatus;
-use crate::request_facts::{Mark, Retirement, Trust, retirement_in, trust_in};
-use gl_requests::{Action, GovernanceRequest, NewNode, NodeId};
+use crate::request_facts::{retirement_in, trust_in};
+use gl_index::is_any_after;
+use gl_requests::{GovernanceRequest, NewNode, NodeId};
 use std::alloc::{AllocError, Global};
 
 /// The node as it is recorded at a seqno.
@@ -54,20 +50,6 @@ fn push_founding_nodes(
     Ok(())
 }
 
-/// Adds the node that a join at a seqno names.
-fn push_node_joining(
-    alloc: Global,
-    nodes: &mut Vec<RecordedNode>,
-    seqno: u64,
-    node: &NewNode,
-) -> Result<(), AllocError>
-    ensures { OnOk result
-        (nodes.new.items ≡ nodes.old.items ++ recorded_node seqno false node.now ∷ []) }
-{
-    nodes.push(recorded_node(alloc, seqno, false, node)?)?;
-    Ok(())
-}
-
 /// Adds the nodes that the request at a seqno records.
 pub(crate) fn push_nodes_recorded(
     alloc: Global,
@@ -85,19 +67,11 @@ pub(crate) fn push_nodes_recorded(
         GovernanceRequest::Recover(recovery) => {
             push_founding_nodes(alloc, nodes, seqno, recovery.nodes.as_slice())
         }
-        GovernanceRequest::Join(node) => push_node_joining(alloc, nodes, seqno, node),
+        GovernanceRequest::Join(node) => {
+            nodes.push(recorded_node(alloc, seqno, false, node)?)?;
+            Ok(())
+        }
         _ => Ok(()),
-    }
-}
-
-/// Whether the change takes this node out of service.
-fn retires(id: &NodeId, change: &Change) -> bool
-    ensures { result ≡ retires id.now change.now }
-{
-    match change {
-        Change::Recovered(_) => true,
-        Change::Applied(Action::RemoveNode(other)) => id == other,
-        _ => false,
     }
 }
 
@@ -109,33 +83,6 @@ fn is_node_or_all(id: &NodeId, other: &Option<NodeId>) -> bool
         None => true,
         Some(other) => id == other,
     }
-}
-
-/// Whether it takes this node out of service, after the node's own entry.
-fn is_retirement_of(node: &RecordedNode, retirement: &Retirement) -> bool
-    ensures { result ≡ is_retirement_of node.now retirement.now }
-{
-    node.seqno < retirement.seqno && is_node_or_all(&node.id, &retirement.id)
-}
-
-/// The seqno of the first of these that takes the node out of service.
-fn first_retirement(node: &RecordedNode, retirements: &[Retirement]) -> Option<u64>
-    ensures { result ≡ first_retirement node.now retirements.now }
-{
-    match retirements
-        .iter()
-        .find(|retirement| is_retirement_of(node, retirement))
-    {
-        None => None,
-        Some(retirement) => Some(retirement.seqno),
-    }
-}
-
-/// Whether one of these is the node's.
-fn is_among(id: &NodeId, trusts: &[Trust]) -> bool
-    ensures { result ≡ list_any (λ (t : a_trust.Trust). same_bytes id.now t.id) trusts.now }
-{
-    trusts.iter().any(|trust| *id == trust.id)
 }
 
 /// How many nodes the changes trust.
@@ -161,26 +108,9 @@ pub(crate) fn retirement_count(changes: &[Changed]) -> usize
         .count()
 }
 
-/// Whether one of these marks this node.
-fn is_any_of(marks: &[Mark], id: &NodeId) -> bool
-    ensures { result ≡ list_any (λ (m : a_mark.Mark). same_bytes id.now m.id) marks.now }
-{
-    marks.iter().any(|mark| *id == mark.id)
-}
-
-/// The seqno of the first of these that marks this node.
-fn first_mark(marks: &[Mark], id: &NodeId) -> Option<u64>
-    ensures { result ≡ first_mark id.now marks.now }
-{
-    match marks.iter().find(|mark| *id == mark.id) {
-        None => None,
-        Some(mark) => Some(mark.seqno),
-    }
-}
-
 impl History {
     ghost use Rattle.gl_gov_rules.specs.Index.{has_mark_after};
-    ghost use Rattle.gl_gov_rules.specs.Nodes.{node, retirement, mark, is_marked, is_trust_applied, was_trusted, node_status, trusted_count, pending_count};
+    ghost use Rattle.gl_gov_rules.specs.Nodes.{node, retirement, mark, is_marked, is_trust_applied, node_status, trusted_count, pending_count};
 
     /// The node with this identifier, if it is recorded.
     #[tactic(auto, unfolding(crate::specs::Nodes::node))]
@@ -190,35 +120,34 @@ impl History {
         self.nodes().iter().find(|node| node.id == *id)
     }
 
-    /// The first change after the node's own entry that took it out of service.
-    #[tactic(auto, unfolding(crate::specs::Nodes::retirement))]
-    pub fn retirement(&self, node: &RecordedNode) -> Option<&Changed>
-        ensures { option_copied result ≡ retirement self.now node.now }
-    {
-        self.changes().iter().find(|changed| node.seqno < changed.seqno
-            && retires(&node.id, &changed.change))
-    }
-
     /// The seqno of the entry that took the node out of service, if one did.
     pub fn removal(&self, node: &RecordedNode) -> Option<u64>
         ensures { result
             ≡ option_map (λ (c : a_change.Changed). c.seqno) (retirement self.now node.now) }
     {
-        first_retirement(node, self.retirements())
+        match self.retirements().iter().find(|retirement| node.seqno < retirement.seqno
+            && is_node_or_all(&node.id, &retirement.id))
+        {
+            None => None,
+            Some(retirement) => Some(retirement.seqno),
+        }
     }
 
     /// The seqno of the entry that marked a node, if one did.
     pub fn mark(&self, id: &NodeId) -> Option<u64>
         ensures { result ≡ mark self.now id.now }
     {
-        first_mark(self.marks(), id)
+        match self.marks().iter().find(|mark| *id == mark.id) {
+            None => None,
+            Some(mark) => Some(mark.seqno),
+        }
     }
 
     /// Whether the node's Mark stands.
     pub fn is_marked(&self, id: &NodeId) -> bool
         ensures { result ≡ is_marked self.now id.now }
     {
-        is_any_of(self.marks(), id)
+        self.marks().iter().any(|mark| *id == mark.id)
     }
 
     /// Whether a node was marked after a seqno. One look at each mark.
@@ -233,19 +162,11 @@ impl History {
     fn is_trust_applied(&self, id: &NodeId) -> bool
         ensures { result ≡ is_trust_applied self.now id.now }
     {
-        is_among(id, self.trusts())
-    }
-
-    /// Whether a founding named the node, or its trust was applied.
-    #[tactic(auto, unfolding(crate::specs::Nodes::was_trusted))]
-    fn was_trusted(&self, node: &RecordedNode) -> bool
-        ensures { result ≡ was_trusted self.now node.now }
-    {
-        node.is_founding || self.is_trust_applied(&node.id)
+        self.trusts().iter().any(|trust| *id == trust.id)
     }
 
     /// The node's status.
-    #[tactic(auto, unfolding(crate::specs::Nodes::node_status))]
+    #[tactic(auto, unfolding(crate::specs::Nodes::node_status, crate::specs::Nodes::was_trusted))]
     pub fn node_status(&self, node: &RecordedNode) -> NodeStatus
         ensures { result ≡ node_status self.now node.now }
     {
@@ -253,7 +174,7 @@ impl History {
             NodeStatus::Marked
         } else if self.removal(node).is_some() {
             NodeStatus::Retired
-        } else if self.was_trusted(node) {
+        } else if node.is_founding || self.is_trust_applied(&node.id) {
             NodeStatus::Trusted
         } else {
             NodeStatus::Pending

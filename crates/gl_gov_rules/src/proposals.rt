@@ -1,12 +1,11 @@
 //! Proposals, the ballots on them, and the state of each.
 
-ghost use Rattle.std.specs.Prelude.{◌≡◌, Option, true, count_by, slice_get, IfOk};
+ghost use Rattle.std.specs.Prelude.{◌≡◌, true, IfOk};
 ghost use Rattle.std.specs.Option.{option_copied};
 ghost use Rattle.std.specs.List.{position};
-ghost use Rattle.gl_gov_rules.specs.declared.change.Settling as a_settling;
 ghost use Rattle.gl_gov_rules.specs.Index.{is_same_proposal};
 ghost use Rattle.gl_requests.specs.Ranges.{is_member_request, is_request};
-ghost use Rattle.gl_gov_rules.specs.Proposals.{proposal_in_act, proposal_in, dropped_if, state_settled, settling_in, settled_state, is_open_state, is_answer_on, is_ballot};
+ghost use Rattle.gl_gov_rules.specs.Proposals.{proposal_in_act, proposal_in, state_settled, settling_in, is_answer_on, is_ballot};
 
 use crate::ballots::has_vote;
 use crate::change::{Change, Proposal, ProposalState, Recorded, Settling};
@@ -51,17 +50,6 @@ pub(crate) fn proposal_in(
     }
 }
 
-/// Dropped, where what drops proposals stands after the proposal.
-fn dropped_if(later: bool) -> Option<ProposalState>
-    ensures { result ≡ dropped_if later }
-{
-    if later {
-        Some(ProposalState::Dropped)
-    } else {
-        None
-    }
-}
-
 /// The state in which the change at a seqno settles the proposal.
 pub(crate) fn state_settled(
     proposal: &Proposal,
@@ -71,8 +59,13 @@ pub(crate) fn state_settled(
     ensures { result ≡ state_settled proposal.now seqno change.now }
 {
     match change {
-        Change::Recovered(_) => dropped_if(proposal.seqno < seqno),
-        Change::Applied(Action::SetConstitution(_)) => dropped_if(proposal.seqno < seqno),
+        Change::Recovered(_) | Change::Applied(Action::SetConstitution(_)) => {
+            if proposal.seqno < seqno {
+                Some(ProposalState::Dropped)
+            } else {
+                None
+            }
+        }
         Change::Settled(id, state) => {
             if proposal.id == *id {
                 Some(*state)
@@ -89,24 +82,6 @@ fn place_of(proposals: &[Proposal], proposal: &Proposal) -> Option<usize>
     ensures { result ≡ position (is_same_proposal proposal.now) proposals.now }
 {
     proposals.iter().position(|other| proposal.seqno == other.seqno && proposal.id == other.id)
-}
-
-fn settling_at(settlings: &[Option<Settling>], place: usize) -> Option<Option<Settling>>
-    ensures { result ≡ slice_get settlings.now place }
-{
-    settlings.get(place).copied()
-}
-
-/// How many of the proposals that are settled so are open.
-fn open_count(settlings: &[Option<Settling>]) -> usize
-    ensures { result
-        ≡ count_by (λ (s : Option a_settling.Settling). is_open_state (settled_state s))
-        settlings.now }
-{
-    settlings
-        .iter()
-        .filter(|settling| matches!(settled_state(**settling), ProposalState::Open))
-        .count()
 }
 
 /// Whether what a member asks for is a ballot on this proposal, with this answer.
@@ -158,18 +133,22 @@ impl History {
         ensures { result ≡ settling_in self.now.changes proposal.now }
     {
         if let Some(place) = place_of(self.proposals(), proposal) {
-            if let Some(settling) = settling_at(self.settlings(), place) {
-                return settling;
+            if let Some(settling) = self.settlings().get(place) {
+                return *settling;
             }
         }
         settling_in(self.changes(), proposal)
     }
 
     /// How many proposals are open.
+    #[tactic(auto, using(crate::proofs::Settled::open_is))]
     pub fn open_count(&self) -> usize
         ensures { result ≡ open_count self.now }
     {
-        open_count(self.settlings())
+        self.settlings()
+            .iter()
+            .filter(|settling| matches!(settled_state(**settling), ProposalState::Open))
+            .count()
     }
 
     /// Whether the member gave this answer to this proposal.

@@ -2,15 +2,14 @@
 
 ghost use Rattle.std.specs.Prelude.{◌≡◌, ℕ, ◌≤◌, ◌++◌, ◌∷◌, [], nat_eq, OnOk};
 ghost use Rattle.std.specs.Option.{option_to_list};
-ghost use Rattle.gl_gov_rules.specs.Service.{share_in};
 ghost use Rattle.gl_gov_rules.specs.Members.{leaf_after};
-ghost use Rattle.gl_gov_rules.specs.Lists.{lists_of, list_at, HasRoomAt};
+ghost use Rattle.gl_index.specs.Lists.{lists_of, list_at, HasRoomAt};
 ghost use Rattle.gl_gov_rules.specs.RequestFacts.{removed_in, trust_in, retirement_in, mark_in, given_in, signed_in, signed_by};
 ghost use Rattle.gl_gov_rules.specs.Index.{HasRoomForSigner};
 
 use crate::change::{Ballot, Change, Proposal, Recorded, RecordedNode};
 use crate::leaf::leaf_of;
-use crate::lists::{AtSeqno, push_at, reserve_at};
+use gl_index::{AtSeqno, push_at, reserve_at};
 use gl_requests::{Action, GovernanceRequest, MemberAct, MemberRequest, NodeId};
 use gl_shares::Share;
 use std::alloc::{AllocError, Global};
@@ -153,29 +152,20 @@ pub(crate) fn mark_in(seqno: u64, request: &GovernanceRequest) -> Option<Mark>
     }
 }
 
-/// The share that the request gives.
-fn share_in(request: &GovernanceRequest) -> Option<Share>
-    ensures { result ≡ share_in request.now }
-{
-    match request {
-        GovernanceRequest::Member(request) => match request.act {
-            MemberAct::Share { share } => Some(Share {
-                member: request.member,
-                value: share,
-            }),
-            _ => None,
-        },
-        _ => None,
-    }
-}
-
 /// The share that the request at a seqno gives.
 pub(crate) fn given_in(seqno: u64, request: &GovernanceRequest) -> Option<GivenShare>
     ensures { result ≡ given_in seqno request.now }
 {
-    match share_in(request) {
-        None => None,
-        Some(share) => Some(GivenShare { seqno, share }),
+    match request {
+        GovernanceRequest::Member(request) => match request.act {
+            MemberAct::Share { share: value } => {
+                let member = request.member;
+                let share = Share { member, value };
+                Some(GivenShare { seqno, share })
+            }
+            _ => None,
+        },
+        _ => None,
     }
 }
 

@@ -1,16 +1,15 @@
 //! What is in force: the constitution, the dealing of the recovery secret, the service's key and
 //! its state, and the shares that members gave.
 
-ghost use Rattle.std.specs.Prelude.{◌≡◌, is_some, filter_map, length, IfOk, OnOk, ◌++◌};
-ghost use Rattle.std.specs.Option.{option_copied, option_to_list};
-ghost use Rattle.gl_vmaps.specs.LastWrite.{last_such};
-ghost use Rattle.gl_gov_rules.specs.declared.change.Changed as a_change;
-ghost use Rattle.gl_gov_rules.specs.Service.{sets_rules, sets_dealing, sets_identity, state_once_open, sets_state, clears_shares};
+ghost use Rattle.std.specs.Prelude.{◌≡◌, filter_map, length, IfOk};
+ghost use Rattle.std.specs.Option.{option_copied};
+ghost use Rattle.gl_gov_rules.specs.Service.{sets_rules, sets_dealing, sets_identity, sets_state, clears_shares};
 ghost use Rattle.gl_gov_rules.specs.Index.{given_after};
 
-use crate::change::{Change, Changed};
+use crate::change::Change;
 use crate::history::History;
 use crate::request_facts::GivenShare;
+use gl_index::push_some;
 use gl_requests::{Action, Dealing, HssPublicKey, Rule, ServiceState};
 use gl_shares::Share;
 use std::alloc::{AllocError, Global};
@@ -25,17 +24,6 @@ fn sets_rules(change: &Change) -> Option<&[Rule]>
     }
 }
 
-/// The last change that sets the rules.
-fn last_rules(changes: &[Changed]) -> Option<&Changed>
-    ensures { option_copied result
-        ≡ last_such (λ (c : a_change.Changed). is_some (sets_rules c.change)) changes.now }
-{
-    changes
-        .iter()
-        .rev()
-        .find(|changed| sets_rules(&changed.change).is_some())
-}
-
 /// The dealing that the change sets.
 fn sets_dealing(change: &Change) -> Option<&Dealing>
     ensures { option_copied result ≡ sets_dealing change.now }
@@ -44,17 +32,6 @@ fn sets_dealing(change: &Change) -> Option<&Dealing>
         Change::Applied(Action::SetRecoveryThreshold(dealing)) => Some(dealing),
         _ => None,
     }
-}
-
-/// The last change that sets the dealing.
-fn last_dealing(changes: &[Changed]) -> Option<&Changed>
-    ensures { option_copied result
-        ≡ last_such (λ (c : a_change.Changed). is_some (sets_dealing c.change)) changes.now }
-{
-    changes
-        .iter()
-        .rev()
-        .find(|changed| sets_dealing(&changed.change).is_some())
 }
 
 /// The service's key that the change sets.
@@ -68,28 +45,6 @@ fn sets_identity(change: &Change) -> Option<&HssPublicKey>
     }
 }
 
-/// The last change that sets the service's key.
-fn last_identity(changes: &[Changed]) -> Option<&Changed>
-    ensures { option_copied result
-        ≡ last_such (λ (c : a_change.Changed). is_some (sets_identity c.change)) changes.now }
-{
-    changes
-        .iter()
-        .rev()
-        .find(|changed| sets_identity(&changed.change).is_some())
-}
-
-/// The state to which an opening sets the service.
-fn state_once_open(recovered: bool) -> ServiceState
-    ensures { result ≡ state_once_open recovered }
-{
-    if recovered {
-        ServiceState::WaitingForRecoveryShares
-    } else {
-        ServiceState::Open
-    }
-}
-
 /// The state that the change sets the service to.
 fn sets_state(recovered: bool, change: &Change) -> Option<ServiceState>
     ensures { result ≡ sets_state recovered change.now }
@@ -97,22 +52,13 @@ fn sets_state(recovered: bool, change: &Change) -> Option<ServiceState>
     match change {
         Change::Founded(state, _) => Some(*state),
         Change::Recovered(_) => Some(ServiceState::Opening),
-        Change::Applied(Action::TransitionServiceToOpen) => Some(state_once_open(recovered)),
+        Change::Applied(Action::TransitionServiceToOpen) if recovered => {
+            Some(ServiceState::WaitingForRecoveryShares)
+        }
+        Change::Applied(Action::TransitionServiceToOpen) => Some(ServiceState::Open),
         Change::Completed => Some(ServiceState::Open),
         _ => None,
     }
-}
-
-/// The last change that sets the service's state.
-fn last_state(changes: &[Changed], recovered: bool) -> Option<&Changed>
-    ensures { option_copied result
-        ≡ last_such (λ (c : a_change.Changed). is_some (sets_state recovered c.change))
-        changes.now }
-{
-    changes
-        .iter()
-        .rev()
-        .find(|changed| sets_state(recovered, &changed.change).is_some())
 }
 
 /// Whether the change clears the shares that were given.
@@ -123,17 +69,6 @@ fn clears_shares(change: &Change) -> bool
         change,
         Change::Applied(Action::SetRecoveryThreshold(_) | Action::TransitionServiceToOpen)
     )
-}
-
-/// The last change that clears the shares.
-fn last_clearing_change(changes: &[Changed]) -> Option<&Changed>
-    ensures { option_copied result
-        ≡ last_such (λ (c : a_change.Changed). clears_shares c.change) changes.now }
-{
-    changes
-        .iter()
-        .rev()
-        .find(|changed| clears_shares(&changed.change))
 }
 
 /// The share, where it was given after this seqno.
@@ -147,24 +82,6 @@ fn given_after(seqno: u64, given: &GivenShare) -> Option<Share>
     }
 }
 
-/// Adds the share, where it was given after this seqno.
-fn push_share_after(
-    shares: &mut Vec<Share>,
-    seqno: u64,
-    given: &GivenShare,
-) -> Result<(), AllocError>
-    ensures { OnOk result
-        (shares.new.items ≡ shares.old.items ++ option_to_list (given_after seqno given.now)) }
-{
-    match given_after(seqno, given) {
-        None => Ok(()),
-        Some(share) => {
-            shares.push(share)?;
-            Ok(())
-        }
-    }
-}
-
 /// The shares that were given after this seqno.
 fn shares_after(alloc: Global, seqno: u64, given: &[GivenShare]) -> Result<Vec<Share>, AllocError>
     ensures { IfOk result (λ shares.
@@ -172,7 +89,7 @@ fn shares_after(alloc: Global, seqno: u64, given: &[GivenShare]) -> Result<Vec<S
 {
     let mut shares = Vec::new(alloc);
     for given in given {
-        push_share_after(&mut shares, seqno, given)?;
+        push_some(&mut shares, given_after(seqno, given))?;
     }
     Ok(shares)
 }
@@ -181,33 +98,45 @@ impl History {
     ghost use Rattle.gl_gov_rules.specs.Service.{constitution, dealing, identity, is_recovered, service_state, last_clearing, shares_given};
 
     /// The constitution in force, none before a founding.
-    #[tactic(auto, unfolding(crate::specs::Service::constitution))]
     pub fn constitution(&self) -> Option<&[Rule]>
         ensures { option_copied result ≡ constitution self.now }
     {
-        match last_rules(self.changes()) {
+        match self
+            .changes()
+            .iter()
+            .rev()
+            .find(|changed| sets_rules(&changed.change).is_some())
+        {
             None => None,
             Some(changed) => sets_rules(&changed.change),
         }
     }
 
     /// The dealing in force, none before a founding.
-    #[tactic(auto, unfolding(crate::specs::Service::dealing))]
     pub fn dealing(&self) -> Option<&Dealing>
         ensures { option_copied result ≡ dealing self.now }
     {
-        match last_dealing(self.changes()) {
+        match self
+            .changes()
+            .iter()
+            .rev()
+            .find(|changed| sets_dealing(&changed.change).is_some())
+        {
             None => None,
             Some(changed) => sets_dealing(&changed.change),
         }
     }
 
     /// The service's key, none before a founding.
-    #[tactic(auto, unfolding(crate::specs::Service::identity))]
     pub fn identity(&self) -> Option<&HssPublicKey>
         ensures { option_copied result ≡ identity self.now }
     {
-        match last_identity(self.changes()) {
+        match self
+            .changes()
+            .iter()
+            .rev()
+            .find(|changed| sets_identity(&changed.change).is_some())
+        {
             None => None,
             Some(changed) => sets_identity(&changed.change),
         }
@@ -224,23 +153,31 @@ impl History {
     }
 
     /// The service's state, none before a founding.
-    #[tactic(auto, unfolding(crate::specs::Service::service_state))]
     pub fn service_state(&self) -> Option<ServiceState>
         ensures { result ≡ service_state self.now }
     {
         let recovered = self.is_recovered();
-        match last_state(self.changes(), recovered) {
+        match self
+            .changes()
+            .iter()
+            .rev()
+            .find(|changed| sets_state(recovered, &changed.change).is_some())
+        {
             None => None,
             Some(changed) => sets_state(recovered, &changed.change),
         }
     }
 
     /// The seqno of the last change that cleared the shares that were given, or 0.
-    #[tactic(auto, unfolding(crate::specs::Service::last_clearing))]
     fn last_clearing(&self) -> u64
         ensures { result ≡ last_clearing self.now }
     {
-        match last_clearing_change(self.changes()) {
+        match self
+            .changes()
+            .iter()
+            .rev()
+            .find(|changed| clears_shares(&changed.change))
+        {
             None => 0,
             Some(changed) => changed.seqno,
         }
@@ -248,7 +185,7 @@ impl History {
 
     /// The shares given after the last change that cleared them, in the order in which they were
     /// given.
-    #[tactic(auto, unfolding(crate::specs::Service::shares_given, crate::specs::Index::given), using(crate::proofs::HistoryIndex::given_since))]
+    #[tactic(auto, using(crate::proofs::HistoryIndex::shares_are))]
     pub fn shares_given(&self, alloc: Global) -> Result<Vec<Share>, AllocError>
         ensures { IfOk result (λ shares. shares.items ≡ shares_given self.now) }
     {
@@ -256,7 +193,7 @@ impl History {
     }
 
     /// How many shares were given after the last change that cleared them.
-    #[tactic(auto, unfolding(crate::specs::Service::shares_given, crate::specs::Index::given), using(crate::proofs::HistoryIndex::given_count))]
+    #[tactic(auto, using(crate::proofs::HistoryIndex::shares_count))]
     pub fn shares_given_count(&self) -> usize
         ensures { result ≡ length (shares_given self.now) }
     {

@@ -1,7 +1,7 @@
 //! The first change that settles each proposal.
 
 ghost use Rattle.std.specs.Prelude.{◌≡◌, ◌+◌, ◌≤◌, ◌++◌, List, map, take, length, slice_get, option_map, vec_len, vec_capacity};
-ghost use Rattle.std.specs.Option.{option_copied, option_or, option_to_list};
+ghost use Rattle.std.specs.Option.{option_or, option_to_list};
 ghost use Rattle.gl_gov_rules.specs.declared.change.Changed as a_change;
 ghost use Rattle.gl_gov_rules.specs.Proposals.{settling_in, settled_state, settling_up_to};
 
@@ -53,13 +53,6 @@ pub(crate) fn settle(settlings: &mut [Option<Settling>], proposals: &[Proposal],
     }
 }
 
-/// The proposal at a place, if there is one.
-fn proposal_at(proposals: &[Proposal], place: usize) -> Option<&Proposal>
-    ensures { option_copied result ≡ slice_get proposals.now place }
-{
-    proposals.get(place)
-}
-
 /// Adds what settles the proposal after those that are told of, if there is one.
 pub(crate) fn push_settling(
     settlings: &mut Vec<Option<Settling>>,
@@ -70,7 +63,7 @@ pub(crate) fn push_settling(
     ensures { settlings.new.items ≡ settlings.old.items ++ option_to_list
         (option_map (settling_in changes.now) (slice_get proposals.now (vec_len settlings.old))) }
 {
-    match proposal_at(proposals, settlings.len()) {
+    match proposals.get(settlings.len()) {
         None => {}
         Some(proposal) => settlings.push_reserved(settling_in(changes, proposal)),
     }

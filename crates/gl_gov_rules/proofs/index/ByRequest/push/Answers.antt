@@ -2,7 +2,7 @@ use Rattle.std.proofs.Common.{[], ◌∷◌, ◌++◌, ◌≤◌, ◌≡◌, ◌
 use Rattle.std.specs.Option.{option_to_list}
 use Rattle.std.specs.Vec.{with_items}
 use Rattle.std.proofs.lemmas.List.{with_items_is}
-use Rattle.gl_gov_rules.specs.Lists.{lists_of, list_at}
+use Rattle.gl_index.specs.Lists.{lists_of, list_at}
 use Rattle.gl_gov_rules.specs.declared.change.Recorded.{Recorded}
 use Rattle.gl_gov_rules.specs.Members.{leaf_after}
 use Rattle.gl_gov_rules.specs.Nodes.{nodes_recorded}
@@ -21,14 +21,14 @@ returns c = λ rs before.
       nodes = one_more_flat (λ (x : Recorded). nodes_recorded x.seqno x.request) rs r _ _ before.nodes
           (c.append_reserved.ensures ∙ ap (λ us. old.nodes.items ++ us) c.requires.reported.nodes);
       marks = one_more (λ (x : Recorded). mark_in x.seqno x.request) rs r _ _ before.marks
-          (c.push_some.ensures ∙ ap (λ o. old.marks.items ++ option_to_list o) c.mark_in.ensures);
+          (c.push_some_reserved.ensures ∙ ap (λ o. old.marks.items ++ option_to_list o) c.mark_in.ensures);
       shares = one_more (λ (x : Recorded). given_in x.seqno x.request) rs r _ _ before.shares
-          (c.push_some-2.ensures ∙ ap (λ o. old.shares.items ++ option_to_list o) c.given_in.ensures);
+          (c.push_some_reserved-2.ensures ∙ ap (λ o. old.shares.items ++ option_to_list o) c.given_in.ensures);
       proposals = one_more (λ (x : Recorded). proposal_in x.seqno x.request) rs r _ _ before.proposals
-          (c.push_some-3.ensures ∙ ap (λ o. old.proposals.items ++ option_to_list o) c.requires.reported.proposal);
+          (c.push_some_reserved-3.ensures ∙ ap (λ o. old.proposals.items ++ option_to_list o) c.requires.reported.proposal);
       signed = λ n. ap (λ vs. list_at (lists_of vs) n) same
           ∙ one_more (λ (x : Recorded). signed_by n x.seqno x.request) rs r _ _ (before.signed n) (rw c.deref_mut.ensures.value at (c.push_signer.ensures.more n));
-      ballots = λ id. one_more (ballot_on id) rs r _ _ (before.ballots id) (c.push.ensures.more id);
-      known = rw (c.push.ensures.known, c.push.ensures.ids) before.known;
+      ballots = λ id. one_more (ballot_on id) rs r _ _ (before.ballots id) (c.push_answer.ensures.more id);
+      known = rw (c.push_answer.ensures.known, c.push_answer.ensures.ids) before.known;
       leaves = each_append (λ (x : Recorded). leaf_after x.request ≤ 1024) rs (r ∷ []) before.leaves (c.push_signer.ensures.range, tt);
     }

@@ -1,5 +1,0 @@
-use Rattle.gl_gov_rules.proofs.ListsByNumber.{at_more}
-use Rattle.gl_gov_rules.proofs.lists.push_at.Goals as goal
-
-pub returns : goal.returns
-returns g c = at_more c.args.lists.now c.args.number c.index-lists-number.result c.push_reserved.new.self c.args.item c.requires.there c.push_reserved.ensures.items

@@ -1,0 +1,2 @@
+mod ListsByNumber
+mod Places

@@ -6,7 +6,8 @@ use Rattle.std.proofs.lemmas.List.Sums.{prefix_len-le-length, passes_at_first}
 use Rattle.std.proofs.lemmas.Bool.{false≢true}
 use Rattle.std.proofs.lemmas.Bool.Decides.{nat_tests}
 use Rattle.std.specs.Cmp.Lexicographic.{bytes_decides}
-use Rattle.gl_index.specs.KeyedLists.{same_bytes, place_of}
+use Rattle.gl_base.specs.Bytes.{same_bytes}
+use Rattle.gl_index.specs.KeyedLists.{place_of}
 
 same_place : (a b : ℕ) → nat_lt a b ≡ false → a ≤ b → b ≡ a
 same_place a b e le = grind (arith, nat_tests)

@@ -1,13 +1,9 @@
 -- A list for each identifier.
-use Rattle.std.specs.Prelude.{ℕ, ◌<◌, List, Bool, length, nat_eq}
-use Rattle.std.specs.Cmp.Lexicographic.{pointwise}
+use Rattle.std.specs.Prelude.{ℕ, ◌<◌, List, length}
 use Rattle.std.specs.List.{position_or_len}
+use Rattle.gl_base.specs.Bytes.{same_bytes}
 use Rattle.gl_index.specs.declared.keyed_lists.KeyedLists.{KeyedLists}
 use Rattle.gl_index.specs.Lists.{lists_of, list_at, HasRoomAt}
-
--- The test whether two lists of bytes are the same.
-abbrev pub same_bytes : List ℕ → List ℕ → Bool
-same_bytes xs ys = pointwise nat_eq xs ys
 
 -- The place of an identifier, the number of them where it isn't among them.
 abbrev pub place_of : List (List ℕ) → List ℕ → ℕ

@@ -3,8 +3,9 @@
 ghost use Rattle.std.specs.Prelude.{◌≡◌, ℕ, ◌<◌, ◌≤◌, ◌++◌, ◌∷◌, List, [], false, nat_le, filter, vec_len, IfOk, OnOk};
 ghost use Rattle.std.specs.List.{position};
 ghost use Rattle.std.specs.List.Sorted.{IsPartitionedBy};
+ghost use Rattle.gl_base.specs.Bytes.{same_bytes};
 ghost use Rattle.gl_index.specs.Lists.{lists_of, list_at};
-ghost use Rattle.gl_index.specs.KeyedLists.{same_bytes, place_of, list_on, HasRoomOn};
+ghost use Rattle.gl_index.specs.KeyedLists.{place_of, list_on, HasRoomOn};
 
 use crate::lists::{AtSeqno, copy_lists, cut_lists, list_at, push_at, reserve_at};
 use std::alloc::{AllocError, Global};

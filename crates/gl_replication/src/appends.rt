@@ -23,9 +23,9 @@ use gl_entry::Entry;
 use gl_messages::{Body, Message};
 use std::alloc::AllocError;
 
+#[tactic(auto, unfolding(gl_rules::specs::Steps::enter_view), using(crate::proofs::Prefixes::last))]
 impl<B: Book> Core<B> {
     /// The length of the log once it is in this view.
-    #[tactic(auto, unfolding(gl_rules::specs::Steps::enter_view), using(crate::proofs::LogPrefixes::last_within))]
     fn len_in_view(&self, view: u32) -> u64
         ensures limit { result < 2 ^ 40 }
         ensures within { Reports B.stands self.now (λ b x n. result ≤ length n.log) }
@@ -38,8 +38,23 @@ impl<B: Book> Core<B> {
         self.book.ledger_len()
     }
 
+    /// A view that rises: no vote, no leader, and the log cut to its last signature.
+    fn enter_view(&mut self, view: u32)
+        ensures { Turns B.stands (λ b n. enter_view b view n) self.old self.new }
+    {
+        let seqno = self.book.last_signature().seqno;
+        self.cut_to(seqno);
+        self.peer.view = view;
+        self.peer.vote = None;
+        self.peer.role = Role::Follower;
+        self.peer.leader = None;
+        self.peer.votes = NodeSet::new(Vec::new(self.alloc));
+    }
+}
+
+impl<B: Book> Core<B> {
     /// Whether the log up to a length has an entry of this view at this seqno, or the seqno is 0.
-    #[tactic(auto, using(crate::proofs::LogPrefixes::matching))]
+    #[tactic(auto, using(crate::proofs::Prefixes::matching))]
     fn is_matching(&self, len: u64, prev: TxId) -> bool
         ensures value { Reports B.stands self.now (λ b x n. len ≤ length n.log → result ≡
             is_matching b (take len n.log) (position prev)) }
@@ -49,7 +64,7 @@ impl<B: Book> Core<B> {
     }
 
     /// How many of the entries the log up to a length holds after a seqno with their views.
-    #[tactic(auto, unfolding(gl_rules::specs::Replication::matching_prefix_len), using(crate::proofs::LogPrefixes::matching))]
+    #[tactic(auto, using(crate::proofs::Prefixes::matching))]
     fn matching_prefix_len(&self, len: u64, prev: u64, entries: &[Entry]) -> usize
         ensures value { Reports B.stands self.now (λ b x n. len ≤ length n.log → result ≡
             matching_prefix_len b (drop prev (take len n.log)) entries.now) }
@@ -69,7 +84,7 @@ impl<B: Book> Core<B> {
 
     /// The greatest seqno up to this one, within a length, whose entry's view is at most this one,
     /// else 0.
-    #[tactic(auto, using(crate::proofs::LogPrefixes::matching))]
+    #[tactic(auto, using(crate::proofs::Prefixes::matching))]
     fn highest_possible_match(&self, len: u64, view: u32, upto: u64) -> u64
         ensures { Reports B.stands self.now (λ b x n. len ≤ length n.log → upto ≤ len → result ≡
             highest_possible_match b (take len n.log) view upto) }
@@ -104,20 +119,6 @@ impl<B: Book> Core<B> {
             body: Body::AppendReply { ok, seqno },
         })?;
         Ok(Sequence::from(sent))
-    }
-
-    /// A view that rises: no vote, no leader, and the log cut to its last signature.
-    #[tactic(auto, unfolding(gl_rules::specs::Steps::enter_view), using(crate::proofs::LogPrefixes::last_within))]
-    fn enter_view(&mut self, view: u32)
-        ensures { Turns B.stands (λ b n. enter_view b view n) self.old self.new }
-    {
-        let seqno = self.book.last_signature().seqno;
-        self.cut_to(seqno);
-        self.peer.view = view;
-        self.peer.vote = None;
-        self.peer.role = Role::Follower;
-        self.peer.leader = None;
-        self.peer.votes = NodeSet::new(Vec::new(self.alloc));
     }
 
     /// The view rises to this one, if it is lower.

@@ -69,7 +69,7 @@ module _ {E Q G R A F : Type 0} (b : Book E Q G R A F) where
       is_equal : (u v : ℕ) → u ≡ v → (u == v) ≡ true
       is_equal u v h = grind (arith, nat_tests)
 
-  pub ruleset last_within = (last_le)
+  pub ruleset last = (last_le)
 
   pub most_here : (l : List E) (len view seqno : ℕ) → 0 < seqno → seqno ≤ len → view_at b l seqno ≤ view → highest_possible_match b (take len l) view seqno ≡ seqno
   unfolding highest_possible_match

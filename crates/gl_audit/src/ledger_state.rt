@@ -150,7 +150,7 @@ fn take(
 ) -> Result<(), AllocError>
     requires base { tables.old.base < entry.now.seqno }
     requires above { (map key : List ℕ) → version_of tables.old map key < entry.now.seqno }
-    requires above { governed.IsAbove entry.now.seqno gov.old }
+    requires gov_above { governed.IsAbove entry.now.seqno gov.old }
     requires follows { AllByRecursion (governed.Follows gov.old)
         (recorded_in entry.now.seqno entry.now.content) }
     ensures recorded { OnOk result
@@ -257,7 +257,7 @@ impl LedgerState {
         requires base { self.old.tables.base < entry.now.seqno }
         requires above { (map key : List ℕ) →
             version_of self.old.tables map key < entry.now.seqno }
-        requires above { governed.IsAbove entry.now.seqno self.old.gov }
+        requires gov_above { governed.IsAbove entry.now.seqno self.old.gov }
         requires follows { AllByRecursion (governed.Follows self.old.gov)
             (recorded_in entry.now.seqno entry.now.content) }
         requires keyed { (ps : List Placed) × StandsFor self.old.tables ps

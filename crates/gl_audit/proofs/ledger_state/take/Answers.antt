@@ -10,4 +10,4 @@ returns-in-Err-clause-gov_kept c =
     let low = c.requires.base in
     let some : 0 < e.seqno = omega (arith, low) in
     c.cut.ensures ∙ ap (λ (rs : List Recorded). governed.up_to (e.seqno - 1) rs) c.in_ok-take_request.ensures.recorded
-    ∙ taken_back e.seqno c.args.gov.now e.content some c.requires.above
+    ∙ taken_back e.seqno c.args.gov.now e.content some c.requires.gov_above

@@ -27,8 +27,8 @@ push_made-requires-clause-above c =
     let k = c.requires.unbroken.1 in
     versions_below c.requires.unbroken.0 c.args.self.now.tables _ k.sound.in_order k.tables_are (next_seqno c.requires.unbroken.0 c.args.entry.now c.requires.unbroken.2).0
 
-pub push_made-requires-clause-above : goal.push_made-requires-clause-above
-push_made-requires-clause-above c = requests_below c.requires.unbroken.0 _ c.args.entry.now c.requires.unbroken.1 c.requires.unbroken.2
+pub push_made-requires-clause-gov_above : goal.push_made-requires-clause-gov_above
+push_made-requires-clause-gov_above c = requests_below c.requires.unbroken.0 _ c.args.entry.now c.requires.unbroken.1 c.requires.unbroken.2
 
 pub push_made-requires-clause-follows : goal.push_made-requires-clause-follows
 push_made-requires-clause-follows c = recorded_follows c.requires.unbroken.0 _ c.args.entry.now c.requires.unbroken.1 c.requires.unbroken.2

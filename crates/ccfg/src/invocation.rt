@@ -86,17 +86,6 @@ impl Display for NoLink<'_> {
     }
 }
 
-impl From<AllocError> for NoLink<'_> {
-    ghost use Rattle.std.specs.Prelude.{◌≡◌};
-    ghost use Rattle.ccfg.specs.declared.invocation.NoLink.TheVariants.{Memory};
-
-    ghost from_gives = { λ _ why. why ≡ Memory };
-
-    fn from(_error: AllocError) -> Self {
-        NoLink::Memory
-    }
-}
-
 /// The address that a word is.
 fn address(word: &str) -> Result<SocketAddr, NoLink<'_>> {
     match word.parse::<SocketAddr>() {
@@ -109,7 +98,9 @@ fn address(word: &str) -> Result<SocketAddr, NoLink<'_>> {
 fn addresses<'a>(alloc: Global, words: &[&'a str]) -> Result<Vec<SocketAddr>, NoLink<'a>> {
     let mut found = Vec::new(alloc);
     for word in words {
-        found.push(address(word)?)?;
+        if found.push(address(word)?).is_err() {
+            return Err(NoLink::Memory);
+        }
     }
     Ok(found)
 }

@@ -172,7 +172,7 @@ fn takes_pieces_whole_and_counts_each_failure_once(rt: HostRuntime) -> Result<()
         (1, 3, Some(DiskCall::Read)),
         (2, 3, Some(DiskCall::Read)),
         (5, 3, Some(DiskCall::Read)),
-        (6, 1, Some(DiskCall::Sync)),
+        (6, 1, Some(DiskCall::Read)),
         (7, 1, Some(DiskCall::Read)),
         (10, 1, Some(DiskCall::Read)),
         (11, 0, None),

@@ -16,6 +16,7 @@ use Rattle.gl_store_book.specs.ServiceStart.{start_in}
 use Rattle.gl_store_book.specs.ViewVotes.{IsOfOpening, IsTooLarge}
 use Rattle.gl_store_book.specs.declared.node_file.fault.OpeningFault.{OpeningFault}
 use Rattle.gl_store_book.specs.declared.node_file.fault.OpeningFault.TheVariants as faults
+use Rattle.ccfg.specs.NodeCommand.{NeedsNoSource}
 use Rattle.ccfg.specs.Nodes.{Beginning, HasLedger, OfOpened, begin_after, begin_with, beginning, beginning_of, has_ledger, opened_by}
 
 -- ---- values
@@ -110,6 +111,14 @@ other_kind d given got kind other =
     go kinds.Service n = refl
     go kinds.Node n = absurd (n refl)
     go kinds.Member n = refl
+
+-- a file of a node that needs no source has a ledger
+pub has_one : (opens : Result Durable JournalFault) (d : Durable) → opens ≡ Ok d → d.key.kind ≡ kinds.Node → NeedsNoSource opens → has_ledger d.log ≡ true
+has_one opens d is kind none = go (subst NeedsNoSource is none)
+  where
+    go : (d.key.kind ≢ kinds.Node) ⊎ (has_ledger d.log ≡ true) → has_ledger d.log ≡ true
+    go (inl other) = absurd (other kind)
+    go (inr has) = has
 
 -- some state with a key of a kind
 abbrev pub of_kind : KeyKind → Durable

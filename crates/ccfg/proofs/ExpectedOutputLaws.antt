@@ -21,18 +21,21 @@ use Rattle.gl_commands.specs.declared.task.LoadTask.{LoadTask}
 use Rattle.gl_commands.specs.declared.task.Task.{Task}
 use Rattle.gl_commands.specs.declared.task.Task.TheVariants as tasks
 use Rattle.ccfg.specs.Faults.{fault_line}
-use Rattle.ccfg.specs.ExpectedOutput.{Output, EndsSource, OfRun, Expected, Owes, OwesRead, Run, Runs, Written, WritesOutput, bytes_limit, output_of_answer, output_of_audit, output_of_fault, output_of_form, output_of_load, output_of_reading, output_of_receipt, output_of_schedule, ending_of_fault, ending_of_stop, json_limit, ledger_line, lines_limit, report_text, requests_limit, valid_line}
+use Rattle.ccfg.specs.Exits.{Exits, ExitsByDisk}
+use Rattle.ccfg.specs.Run.{Run}
+use Rattle.ccfg.specs.SignCommand.{PrintsFaultPrefix}
+use Rattle.ccfg.specs.VerifyCommand.{PrintsAccepted}
+use Rattle.ccfg.specs.ExpectedOutput.{Output, EndsSource, Shown, Written, WritesOutput, bytes_limit, output_of_answer, output_of_audit, output_of_fault, output_of_form, output_of_load, output_of_reading, output_of_receipt, output_of_schedule, ending_of_fault, ending_of_stop, json_limit, ledger_line, lines_limit, report_text, requests_limit, valid_line}
 use Rattle.ccfg.specs.Plans.{KeepsKey, SpendsLeaf, PrintsFault, PrintsSpent, ShowsAccepted, ShowsKept, output_of_plan}
 use Rattle.ccfg.specs.declared.plan.PlanError.{PlanError}
 use Rattle.ccfg.specs.declared.plan.PlanError.TheVariants as stops
-use Rattle.ccfg.proofs.ShownLemmas.{both_any, both_map, of_map}
+use Rattle.ccfg.proofs.ShownLemmas.{OfBoth, both_any, both_map, of_map}
 use Rattle.gl_journal.specs.declared.key.KeyKind.{KeyKind}
 use Rattle.gl_keyfile.specs.declared.leaf.LeafUse.{LeafUse}
 use Rattle.gl_hss.specs.declared.types.Types.{Types}
 use Rattle.gl_outside.specs.Disk.{Step}
 use Rattle.gl_outside.specs.Fault.{Rose}
 use Rattle.gl_schedule.specs.Output.{text_of_schedule}
-use Rattle.ccfg.specs.Promises.{IsFaultLine, PrintsAccepted, PrintsPrefix}
 use Rattle.gl_recovery.specs.declared.recovering_fault.RecoveringFault.TheVariants as recoverings
 use Rattle.gl_schedule.specs.Schedules.{reads}
 
@@ -196,39 +199,40 @@ done_whole (ShowLedger last signed) is = refl
 done_whole (Print text) is = refl
 done_whole (Refuse fault) is = absurd (no_fault_done fault is)
 
--- what holds of the expected output of a plan holds of the expected output of the bytes
-of_output : (r : Run) (expected_output : Expected) (output : Output) (P : Output → Type 0) → OfRun r (λ h g. expected_output h g ≡ output) → P output → OfRun r (λ h g. P (expected_output h g))
-of_output r expected_output output P is p = both_map r.disk.honest r.disk.held r.given (λ h g. expected_output h g ≡ output) (λ h g. P (expected_output h g)) (λ h g same. subst P (sym same) p) is
-
-owes_output : (e : Ending) (r : Run) (expected_output : Expected) (output : Output) → OfRun r (λ h g. expected_output h g ≡ output) → WritesOutput e r.written output → Owes e r expected_output
-owes_output e r expected_output output is writes = of_output r expected_output output (WritesOutput e r.written) is writes
-
-reads_output : (e : Ending) (r : Run) (expected_output : Expected) (output : Output) → OfRun r (λ h g. expected_output h g ≡ output) → EndsSource output r.ended → WritesOutput e r.written output → OwesRead e r expected_output
-reads_output e r expected_output output is ends writes = of_output r expected_output output (λ d. EndsSource d r.ended × WritesOutput e r.written d) is (ends, writes)
+-- how a run ends that does what a plan owes
+exits_so : {S D : Type 0} (r : Run S D) (e : Ending) (plan : Plan) → EndsSource (output_of_plan plan) r.source.ended → WritesOutput e r.sink (output_of_plan plan) → Exits r e (output_of_plan plan)
+exits_so r endings.Done plan ends writes = (ends (done_whole plan writes.0), writes)
+exits_so r endings.NotValid plan ends writes = (ends, writes)
+exits_so r endings.OtherWords plan ends writes = writes
+exits_so r endings.SourceFailed plan ends writes = absurd writes
+exits_so r endings.SinkFailed plan ends writes = writes
+exits_so r endings.DiskFailed plan ends writes = absurd writes
+exits_so r endings.LinkFailed plan ends writes = writes
+exits_so r endings.Memory plan ends writes = writes
+exits_so r endings.PastLimit plan ends writes = (ends, writes)
+exits_so r endings.NoReading plan ends writes = (ends, writes)
 
 -- a run that does the expected output of the bytes
-pub output_runs : (e : Ending) (r : Run) (expected_output : Expected) (plan : Plan) → OfRun r (λ h g. expected_output h g ≡ output_of_plan plan) → EndsSource (output_of_plan plan) r.ended →
-    WritesOutput e r.written (output_of_plan plan) → Runs e r expected_output
-output_runs endings.Done r expected_output plan is ends writes = (ends (done_whole plan writes.0), owes_output endings.Done r expected_output (output_of_plan plan) is writes)
-output_runs endings.NotValid r expected_output plan is ends writes = reads_output endings.NotValid r expected_output (output_of_plan plan) is ends writes
-output_runs endings.OtherWords r expected_output plan is ends writes = owes_output endings.OtherWords r expected_output (output_of_plan plan) is writes
-output_runs endings.SourceFailed r expected_output plan is ends writes = absurd writes
-output_runs endings.SinkFailed r expected_output plan is ends writes = owes_output endings.SinkFailed r expected_output (output_of_plan plan) is writes
-output_runs endings.DiskFailed r expected_output plan is ends writes = absurd writes
-output_runs endings.LinkFailed r expected_output plan is ends writes = absurd writes
-output_runs endings.Memory r expected_output plan is ends writes = owes_output endings.Memory r expected_output (output_of_plan plan) is writes
-output_runs endings.PastLimit r expected_output plan is ends writes = reads_output endings.PastLimit r expected_output (output_of_plan plan) is ends writes
-output_runs endings.NoReading r expected_output plan is ends writes = reads_output endings.NoReading r expected_output (output_of_plan plan) is ends writes
+pub output_runs : {S D : Type 0} (r : Run S D) (expected : Shown → List ℕ → Output) (e : Ending) (plan : Plan) →
+    OfBoth r.disk.honest (r.disk.bytes r.disk.before) r.source.given (λ h g. expected h g ≡ output_of_plan plan) →
+    EndsSource (output_of_plan plan) r.source.ended → WritesOutput e r.sink (output_of_plan plan) → ExitsByDisk r e expected
+output_runs r expected e plan is ends writes =
+    both_map r.disk.honest (r.disk.bytes r.disk.before) r.source.given (λ h g. expected h g ≡ output_of_plan plan) (λ h g. Exits r e (expected h g))
+    (λ h g same. subst (Exits r e) (sym same) (exits_so r e plan ends writes)) is
 
 -- a run that came to no plan
-pub nothing_expected : (r : Run) (expected_output : Expected) → ((text : List ℕ) → AppendsPrefix r.written.held r.written.holds text) → Runs endings.Memory r expected_output
-nothing_expected r expected_output prefix = both_any r.disk.honest r.disk.held r.given (λ h g. WritesOutput endings.Memory r.written (expected_output h g)) (λ h g. prefix (expected_output h g).text)
+stops_as : {S D : Type 0} (r : Run S D) (output : Output) (stop : PlanError) → (stop ≡ stops.SourceFailed → Rose r.source.faults r.source.faults_now) →
+    (stop ≡ stops.DiskFailed → Rose (r.disk.faults r.disk.before) (r.disk.faults r.disk.after)) → Keeps r.sink.held r.sink.holds →
+    ((text : List ℕ) → AppendsPrefix r.sink.held r.sink.holds text) → Exits r (ending_of_stop stop) output
+stops_as r output stops.Memory source disk keeps prefix = prefix output.text
+stops_as r output stops.SourceFailed source disk keeps prefix = (source refl, keeps)
+stops_as r output stops.DiskFailed source disk keeps prefix = (disk refl, keeps)
 
-pub stop_runs : (stop : PlanError) (r : Run) (expected_output : Expected) → (stop ≡ stops.SourceFailed → Rose r.faults r.faults_now) → (stop ≡ stops.DiskFailed → Rose r.disk.faults r.disk.faults_now) →
-    Keeps r.written.held r.written.holds → ((text : List ℕ) → AppendsPrefix r.written.held r.written.holds text) → Runs (ending_of_stop stop) r expected_output
-stop_runs stops.Memory r expected_output source disk keeps prefix = nothing_expected r expected_output prefix
-stop_runs stops.SourceFailed r expected_output source disk keeps prefix = (source refl, keeps)
-stop_runs stops.DiskFailed r expected_output source disk keeps prefix = (disk refl, keeps)
+pub stop_runs : {S D : Type 0} (r : Run S D) (expected : Shown → List ℕ → Output) (stop : PlanError) → (stop ≡ stops.SourceFailed → Rose r.source.faults r.source.faults_now) →
+    (stop ≡ stops.DiskFailed → Rose (r.disk.faults r.disk.before) (r.disk.faults r.disk.after)) → Keeps r.sink.held r.sink.holds →
+    ((text : List ℕ) → AppendsPrefix r.sink.held r.sink.holds text) → ExitsByDisk r (ending_of_stop stop) expected
+stop_runs r expected stop source disk keeps prefix =
+    both_any r.disk.honest (r.disk.bytes r.disk.before) r.source.given (λ h g. Exits r (ending_of_stop stop) (expected h g)) (λ h g. stops_as r (expected h g) stop source disk keeps prefix)
 
 -- an ending by which something is refused, or the source failed
 abbrev pub Refuses : Ending → Type 0
@@ -279,14 +283,14 @@ spent_by leaf held past (Refuse fault) w sound writes = absurd (no_fault_done fa
 
 -- it is, or a prefix of a fault's line was written
 pub spent_or_refused : (leaf : LeafUse) (held : List ℕ) (past : List Step) (plan : Plan) (e : Ending) (w : Written) → PrintsSpent leaf held past plan → WritesOutput e w (output_of_plan plan) →
-    (e ≡ endings.Done) ⊎ (e ≡ endings.SinkFailed) ⊎ (e ≡ endings.Memory) → SpendsLeaf leaf held past ⊎ PrintsPrefix IsFaultLine w.held w.holds
+    (e ≡ endings.Done) ⊎ (e ≡ endings.SinkFailed) ⊎ (e ≡ endings.Memory) → SpendsLeaf leaf held past ⊎ PrintsFaultPrefix w.held w.holds
 spent_or_refused leaf held past (Play schedule) e w sound writes is = absurd sound
 spent_or_refused leaf held past (Show id) e w sound writes is = absurd sound
 spent_or_refused leaf held past (ShowLedger last signed) e w sound writes is = absurd sound
 spent_or_refused leaf held past (Print text) e w sound writes is = inl sound
 spent_or_refused leaf held past (Refuse fault) e w sound writes (inl is) = absurd (no_fault_done fault (subst (λ (x : Ending). WritesOutput x w (output_of_fault fault)) is writes).0)
-spent_or_refused leaf held past (Refuse fault) e w sound writes (inr (inl is)) = inr (fault_line fault, (fault, refl), (subst (λ (x : Ending). WritesOutput x w (output_of_fault fault)) is writes).1)
-spent_or_refused leaf held past (Refuse fault) e w sound writes (inr (inr is)) = inr (fault_line fault, (fault, refl), subst (λ (x : Ending). WritesOutput x w (output_of_fault fault)) is writes)
+spent_or_refused leaf held past (Refuse fault) e w sound writes (inr (inl is)) = inr (fault, (subst (λ (x : Ending). WritesOutput x w (output_of_fault fault)) is writes).1)
+spent_or_refused leaf held past (Refuse fault) e w sound writes (inr (inr is)) = inr (fault, subst (λ (x : Ending). WritesOutput x w (output_of_fault fault)) is writes)
 
 pub spent : (leaf : LeafUse) (held : List ℕ) (past : List Step) (plan : Plan) (e : Ending) (w : Written) → PrintsSpent leaf held past plan → e ≡ endings.Done → WritesOutput e w (output_of_plan plan) → SpendsLeaf leaf held past
 spent leaf held past plan e w sound is writes = spent_by leaf held past plan w sound (subst (λ (x : Ending). WritesOutput x w (output_of_plan plan)) is writes)

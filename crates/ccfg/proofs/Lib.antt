@@ -4,9 +4,7 @@ pub mod DealingLemmas
 pub mod SigningLemmas
 pub mod MomentLemmas
 pub mod ExpectedOutputLaws
-pub mod AnswerLemmas
-pub mod MeaningLemmas
-mod PromiseLemmas
+pub mod CommandLemmas
 pub mod RecoveringLemmas
 pub mod Beginnings
 pub mod NodeRuns

@@ -2,7 +2,6 @@
 use Rattle.std.proofs.Common.{◌≡◌, ◌⊎◌, inl, inr, ℕ, Bool, true, false, ◌||◌, List, Option, None, Some, Result, Ok, Err, IsTrue, is_ok, refl, sym, subst, ◌∙◌}
 use Rattle.std.specs.Io.KnownBytes.{Appends, Keeps}
 use Rattle.gl_entry.specs.SourceBytes.{OfBytes}
-use Rattle.gl_outside.specs.Disk.{Step}
 use Rattle.gl_outside.specs.Fault.{Rose}
 use Rattle.gl_store_book.specs.declared.node_file.fault.OpeningFault.{OpeningFault}
 use Rattle.gl_commands.specs.declared.task.NodeTask.{NodeTask}
@@ -10,7 +9,8 @@ use Rattle.gl_serve.specs.Serves.{calls_after}
 use Rattle.gl_serve.specs.declared.settings.ServeEnd.{ServeEnd}
 use Rattle.gl_serve.specs.declared.settings.ServeEnd.TheVariants as ends
 use Rattle.ccfg.specs.Faults.{fault_line}
-use Rattle.ccfg.specs.Nodes.{HasLedger, NodeRun, NodeRuns, NotBegun, OfOpened, Served, beginning_of, served_line}
+use Rattle.ccfg.specs.Run.{LinkRun, Run}
+use Rattle.ccfg.specs.Nodes.{HasLedger, NodeRuns, NotBegun, OfOpened, Served, beginning_of, served_line}
 use Rattle.ccfg.specs.ExpectedOutput.{WritesOutput, output_of_answer, output_of_fault}
 use Rattle.ccfg.specs.declared.ending.Ending.{Ending}
 use Rattle.ccfg.specs.declared.ending.Ending.TheVariants as endings
@@ -31,12 +31,17 @@ ends_true : (before : Bool) (now : Bool) → now ≡ (before || true) → now �
 ends_true true now e = e
 ends_true false now e = e
 
-module _ {D : Type 0} (honest : Bool) (bytes : D → List ℕ) (past : D → List Step) (faults_of : D → ℕ) (honest_link : Bool) (task : NodeTask) (r : NodeRun D) where
+-- and where it wasn't given now it is as it was
+ends_same : (before : Bool) (now : Bool) → now ≡ (before || false) → now ≡ before
+ends_same true now e = e
+ends_same false now e = e
+
+module _ {S D L : Type 0} (task : NodeTask) (r : Run S D) (link : LinkRun L) where
   abbrev Comes : Ending → Type 0
-  Comes e = NodeRuns honest bytes past faults_of honest_link task r e
+  Comes e = NodeRuns task r link e
 
   -- it is told why the node didn't begin
-  prints_refusal : (fault : OpeningFault) → NotBegun honest bytes past faults_of honest_link task r fault → (e : Ending) → WritesOutput e r.written (output_of_fault (printed.Opening fault)) → Comes e
+  prints_refusal : (fault : OpeningFault) → NotBegun task r link fault → (e : Ending) → WritesOutput e r.sink (output_of_fault (printed.Opening fault)) → Comes e
   prints_refusal fault none endings.Done w = absurd (let q : endings.NotValid ≡ endings.Done = w.0 in cc)
   prints_refusal fault none endings.NotValid w = (fault, none, w.1)
   prints_refusal fault none endings.OtherWords w = absurd (let q : endings.NotValid ≡ endings.OtherWords = w.0 in cc)
@@ -49,8 +54,8 @@ module _ {D : Type 0} (honest : Bool) (bytes : D → List ℕ) (past : D → Lis
   prints_refusal fault none endings.NoReading w = absurd (let q : endings.NotValid ≡ endings.NoReading = w.0 in cc)
 
   -- the counts are reported
-  prints_counts : (counts : ℕ × ℕ) → r.link_now.inward.ended ≡ true → OfOpened honest (bytes r.disk) (λ opens. HasLedger opens ⊎ (r.ended ≡ true)) → Served honest bytes past faults_of honest_link task r (Ok counts) →
-      (e : Ending) → WritesOutput e r.written (output_of_answer (served_line counts)) → Comes e
+  prints_counts : (counts : ℕ × ℕ) → (link.inward link.after).ended ≡ true → OfOpened r.disk.honest (r.disk.bytes r.disk.before) (λ opens. HasLedger opens ⊎ (r.source.ended ≡ true)) → Served task r link (Ok counts) →
+      (e : Ending) → WritesOutput e r.sink (output_of_answer (served_line counts)) → Comes e
   prints_counts counts ended asked served endings.Done w = (ended, asked, counts, served, w.1)
   prints_counts counts ended asked served endings.NotValid w = absurd (let q : endings.Done ≡ endings.NotValid = w.0 in cc)
   prints_counts counts ended asked served endings.OtherWords w = absurd (let q : endings.Done ≡ endings.OtherWords = w.0 in cc)
@@ -63,60 +68,60 @@ module _ {D : Type 0} (honest : Bool) (bytes : D → List ℕ) (past : D → Lis
   prints_counts counts ended asked served endings.NoReading w = absurd (let q : endings.Done ≡ endings.NoReading = w.0 in cc)
 
   -- it is told that its turns are over
-  prints_turns : r.link_now.inward.calls ≡ calls_after task.turns r.link.inward.calls → Served honest bytes past faults_of honest_link task r (Err ends.Turns) →
-      (e : Ending) → WritesOutput e r.written (output_of_fault (printed.Turns task.turns)) → Comes e
-  prints_turns calls served endings.Done w = absurd (let q : endings.PastLimit ≡ endings.Done = w.0 in cc)
-  prints_turns calls served endings.NotValid w = absurd (let q : endings.PastLimit ≡ endings.NotValid = w.0 in cc)
-  prints_turns calls served endings.OtherWords w = absurd (let q : endings.PastLimit ≡ endings.OtherWords = w.0 in cc)
-  prints_turns calls served endings.SourceFailed w = absurd w
-  prints_turns calls served endings.SinkFailed w = (w.0, (fault_line (printed.Turns task.turns), inr (inr (served, refl)), w.1))
-  prints_turns calls served endings.DiskFailed w = absurd w
-  prints_turns calls served endings.LinkFailed w = absurd w
-  prints_turns calls served endings.Memory w = inr (fault_line (printed.Turns task.turns), inr (inr (served, refl)), w)
-  prints_turns calls served endings.PastLimit w = (calls, served, w.1)
-  prints_turns calls served endings.NoReading w = absurd (let q : endings.PastLimit ≡ endings.NoReading = w.0 in cc)
+  prints_turns : (link.inward link.after).calls ≡ calls_after task.turns (link.inward link.before).calls → (link.inward link.after).ended ≡ (link.inward link.before).ended → Served task r link (Err ends.Turns) →
+      (e : Ending) → WritesOutput e r.sink (output_of_fault (printed.Turns task.turns)) → Comes e
+  prints_turns calls none served endings.Done w = absurd (let q : endings.PastLimit ≡ endings.Done = w.0 in cc)
+  prints_turns calls none served endings.NotValid w = absurd (let q : endings.PastLimit ≡ endings.NotValid = w.0 in cc)
+  prints_turns calls none served endings.OtherWords w = absurd (let q : endings.PastLimit ≡ endings.OtherWords = w.0 in cc)
+  prints_turns calls none served endings.SourceFailed w = absurd w
+  prints_turns calls none served endings.SinkFailed w = (w.0, (fault_line (printed.Turns task.turns), inr (inr (served, refl)), w.1))
+  prints_turns calls none served endings.DiskFailed w = absurd w
+  prints_turns calls none served endings.LinkFailed w = absurd w
+  prints_turns calls none served endings.Memory w = inr (fault_line (printed.Turns task.turns), inr (inr (served, refl)), w)
+  prints_turns calls none served endings.PastLimit w = (calls, none, served, w.1)
+  prints_turns calls none served endings.NoReading w = absurd (let q : endings.PastLimit ≡ endings.NoReading = w.0 in cc)
 
   -- nothing is reported, and the run ends so
   abbrev Quiet : Ending → Ending → Type 0
-  Quiet e ending = (e ≡ ending) × Keeps r.written.held r.written.holds
+  Quiet e ending = (e ≡ ending) × Keeps r.sink.held r.sink.holds
 
   -- it didn't begin
-  pub stops_so : (stop : NodeError) (e : Ending) → r.link_now ≡ r.link →
-      ((fault : OpeningFault) → stop ≡ stops.Refused fault → OfOpened honest (bytes r.disk) (λ opens. OfBytes r.given (λ given. beginning_of opens given ≡ Err fault))) →
-      (stop ≡ stops.SourceFailed → Rose r.faults r.faults_now) →
-      (stop ≡ stops.DiskFailed → Rose (faults_of r.disk) (faults_of r.disk_now)) →
-      ((fault : OpeningFault) → stop ≡ stops.Refused fault → WritesOutput e r.written (output_of_fault (printed.Opening fault))) →
+  pub stops_so : (stop : NodeError) (e : Ending) → link.after ≡ link.before →
+      ((fault : OpeningFault) → stop ≡ stops.Refused fault → OfOpened r.disk.honest (r.disk.bytes r.disk.before) (λ opens. OfBytes r.source.given (λ given. beginning_of opens given ≡ Err fault))) →
+      (stop ≡ stops.SourceFailed → Rose r.source.faults r.source.faults_now) →
+      (stop ≡ stops.DiskFailed → Rose (r.disk.faults r.disk.before) (r.disk.faults r.disk.after)) →
+      ((fault : OpeningFault) → stop ≡ stops.Refused fault → WritesOutput e r.sink (output_of_fault (printed.Opening fault))) →
       (stop ≡ stops.SourceFailed → Quiet e endings.SourceFailed) →
       (stop ≡ stops.DiskFailed → Quiet e endings.DiskFailed) →
       (stop ≡ stops.Memory → Quiet e endings.Memory) → Comes e
-  stops_so (stops.Refused fault) e link refused source disk prints prints_source prints_disk prints_memory =
-      prints_refusal fault (refused fault refl, link) e (prints fault refl)
-  stops_so stops.SourceFailed e link refused source disk prints prints_source prints_disk prints_memory =
-      let q = prints_source refl in subst Comes (sym q.0) (source refl, link, q.1)
-  stops_so stops.DiskFailed e link refused source disk prints prints_source prints_disk prints_memory =
-      let q = prints_disk refl in subst Comes (sym q.0) (disk refl, q.1)
-  stops_so stops.Memory e link refused source disk prints prints_source prints_disk prints_memory =
-      let q = prints_memory refl in subst Comes (sym q.0) (inl q.1)
+  stops_so (stops.Refused fault) e link_same refused source disk prints prints_source prints_disk prints_memory =
+      prints_refusal fault (refused fault refl, link_same) e (prints fault refl)
+  stops_so stops.SourceFailed e link_same refused source disk prints prints_source prints_disk prints_memory =
+      let q = prints_source refl in subst Comes (sym q.0) (source refl, link_same, q.1)
+  stops_so stops.DiskFailed e link_same refused source disk prints prints_source prints_disk prints_memory =
+      let q = prints_disk refl in subst Comes (sym q.0) (disk refl, inl link_same, q.1)
+  stops_so stops.Memory e link_same refused source disk prints prints_source prints_disk prints_memory =
+      let q = prints_memory refl in subst Comes (sym q.0) (inl (inl link_same, q.1))
 
   -- it served
-  pub serves_so : (end : Result (ℕ × ℕ) ServeEnd) (e : Ending) → Served honest bytes past faults_of honest_link task r end →
-      OfOpened honest (bytes r.disk) (λ opens. HasLedger opens ⊎ (r.ended ≡ true)) →
-      r.link_now.inward.ended ≡ (r.link.inward.ended || is_ok end) →
-      (end ≡ Err ends.Turns → r.link_now.inward.calls ≡ calls_after task.turns r.link.inward.calls) →
-      (end ≡ Err ends.LinkFailed → Rose r.link.inward.faults r.link_now.inward.faults) →
-      (end ≡ Err ends.Stopped → Rose (faults_of r.disk) (faults_of r.disk_now)) →
-      ((counts : ℕ × ℕ) → end ≡ Ok counts → WritesOutput e r.written (output_of_answer (served_line counts))) →
-      (end ≡ Err ends.Turns → WritesOutput e r.written (output_of_fault (printed.Turns task.turns))) →
+  pub serves_so : (end : Result (ℕ × ℕ) ServeEnd) (e : Ending) → Served task r link end →
+      OfOpened r.disk.honest (r.disk.bytes r.disk.before) (λ opens. HasLedger opens ⊎ (r.source.ended ≡ true)) →
+      (link.inward link.after).ended ≡ ((link.inward link.before).ended || is_ok end) →
+      (end ≡ Err ends.Turns → (link.inward link.after).calls ≡ calls_after task.turns (link.inward link.before).calls) →
+      (end ≡ Err ends.LinkFailed → Rose (link.inward link.before).faults (link.inward link.after).faults) →
+      (end ≡ Err ends.Stopped → Rose (r.disk.faults r.disk.before) (r.disk.faults r.disk.after)) →
+      ((counts : ℕ × ℕ) → end ≡ Ok counts → WritesOutput e r.sink (output_of_answer (served_line counts))) →
+      (end ≡ Err ends.Turns → WritesOutput e r.sink (output_of_fault (printed.Turns task.turns))) →
       (end ≡ Err ends.LinkFailed → Quiet e endings.LinkFailed) →
       (end ≡ Err ends.Stopped → Quiet e endings.DiskFailed) →
       (end ≡ Err ends.NoMemory → Quiet e endings.Memory) → Comes e
-  serves_so (Ok counts) e served asked ended calls link disk prints prints_turned prints_link prints_stop prints_memory =
-      prints_counts counts (ends_true r.link.inward.ended r.link_now.inward.ended ended) asked served e (prints counts refl)
-  serves_so (Err ends.Turns) e served asked ended calls link disk prints prints_turned prints_link prints_stop prints_memory =
-      prints_turns (calls refl) served e (prints_turned refl)
-  serves_so (Err ends.LinkFailed) e served asked ended calls link disk prints prints_turned prints_link prints_stop prints_memory =
-      let q = prints_link refl in subst Comes (sym q.0) (link refl, served, q.1)
-  serves_so (Err ends.Stopped) e served asked ended calls link disk prints prints_turned prints_link prints_stop prints_memory =
-      let q = prints_stop refl in subst Comes (sym q.0) (disk refl, q.1)
-  serves_so (Err ends.NoMemory) e served asked ended calls link disk prints prints_turned prints_link prints_stop prints_memory =
-      let q = prints_memory refl in subst Comes (sym q.0) (inl q.1)
+  serves_so (Ok counts) e served asked ended calls failed disk prints prints_turned prints_link prints_stop prints_memory =
+      prints_counts counts (ends_true (link.inward link.before).ended (link.inward link.after).ended ended) asked served e (prints counts refl)
+  serves_so (Err ends.Turns) e served asked ended calls failed disk prints prints_turned prints_link prints_stop prints_memory =
+      prints_turns (calls refl) (ends_same (link.inward link.before).ended (link.inward link.after).ended ended) served e (prints_turned refl)
+  serves_so (Err ends.LinkFailed) e served asked ended calls failed disk prints prints_turned prints_link prints_stop prints_memory =
+      let q = prints_link refl in subst Comes (sym q.0) (failed refl, served, q.1)
+  serves_so (Err ends.Stopped) e served asked ended calls failed disk prints prints_turned prints_link prints_stop prints_memory =
+      let q = prints_stop refl in subst Comes (sym q.0) (disk refl, inr served, q.1)
+  serves_so (Err ends.NoMemory) e served asked ended calls failed disk prints prints_turned prints_link prints_stop prints_memory =
+      let q = prints_memory refl in subst Comes (sym q.0) (inl (inr served, q.1))

@@ -28,9 +28,9 @@ use Rattle.ccfg.specs.declared.plan.PlanError.{PlanError}
 use Rattle.gl_commands.specs.declared.task.Task.{Task}
 use Rattle.gl_commands.specs.declared.task.Task.TheVariants.{Recover, Sign}
 use Rattle.ccfg.specs.Plans.{OpensAsBefore, PlansPlayable, PrintsFault, PrintsSpent, PrintsUnopened, output_of_plan}
+use Rattle.ccfg.specs.SignCommand.{HasNoKey}
 use Rattle.ccfg.proofs.ShownLemmas.{of_any, of_map, ok_map}
 use Rattle.ccfg.specs.ExpectedOutput.{EndsSource, OfShown, Output, Shown, is_kind, json_limit, output_of, output_of_fault, output_of_recovering, output_of_signed, output_of_signing, output_of_text, output_with_key}
-use Rattle.ccfg.specs.Promises.{HasKey}
 
 abbrev pub text_output : Signing → Durable → List ℕ → Bool → Result (List ℕ) SigningFault → Output
 text_output signing state given long signed = if long then output_of_fault faults.TooMuchJson else output_of_signed signed
@@ -63,13 +63,13 @@ other_kind want got other = go (is_kind want got) refl
     go true is = absurd (other (same_kind want got is))
     go false is = is
 
--- what is owed with a key of the kind that is wanted
-pub with_key : (kind : KeyKind) (owes : Durable → List ℕ → Output) (shown : Shown) (state : Durable) (given : List ℕ) → HasKey kind shown state → output_with_key kind owes shown.opens given ≡ owes state given
-with_key kind owes shown state given key =
-    ap (λ (opens : Result Durable JournalFault). output_with_key kind owes opens given) key.0
-    ∙ ap (λ (b : Bool). if b then owes state given else output_of_fault (faults.KeyKind kind state.key.kind)) (is_own_kind kind state.key.kind key.1)
+-- a file that opens to a key of the kind that is wanted has one
+pub key_found : {A : Type 0} (kind : KeyKind) (opens : Result Durable JournalFault) (state : Durable) → opens ≡ Ok state → state.key.kind ≡ kind → HasNoKey kind opens → A
+key_found kind opens state is own none =
+    let other : (state.key.kind ≡ kind → ⊥) = subst (HasNoKey kind) is none in
+    absurd (other own)
 
--- and with one of another kind
+-- what is owed with a key of another kind than that which is wanted
 pub with_other_key : (kind : KeyKind) (owes : Durable → List ℕ → Output) (state : Durable) (given : List ℕ) → (state.key.kind ≡ kind → ⊥) → output_with_key kind owes (Ok state) given ≡ output_of_fault (faults.KeyKind kind state.key.kind)
 with_other_key kind owes state given other =
     ap (λ (b : Bool). if b then owes state given else output_of_fault (faults.KeyKind kind state.key.kind)) (other_kind kind state.key.kind other)
@@ -77,11 +77,6 @@ with_other_key kind owes state given other =
 pub with_own_key : (kind : KeyKind) (owes : Durable → List ℕ → Output) (state : Durable) (given : List ℕ) → state.key.kind ≡ kind → output_with_key kind owes (Ok state) given ≡ owes state given
 with_own_key kind owes state given own =
     ap (λ (b : Bool). if b then owes state given else output_of_fault (faults.KeyKind kind state.key.kind)) (is_own_kind kind state.key.kind own)
-
-pub signed_ends : (signing : Signing) (shown : Shown) (given : List ℕ) (state : Durable) (signed : Result (List ℕ) SigningFault) → HasKey (kind_of signing) shown state → length given ≤ json_limit → expected_output signing state given ≡ signed →
-    (output_of_signing signing shown.opens given).ending ≡ (output_of_signed signed).ending
-signed_ends signing shown given state signed key within is =
-    ap (λ (d : Output). d.ending) (with_key (kind_of signing) (output_of_text signing) shown state given key ∙ short_text signing state given signed within is)
 
 -- a fault of signing, and not of the form
 pub unsigned_output : (fault : SigningFault) → ((form : FormsFault) → fault ≡ signings.Form form → ⊥) → output_of_signed (Err fault) ≡ output_of_fault (faults.Signing fault)

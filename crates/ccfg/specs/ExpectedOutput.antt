@@ -1,9 +1,7 @@
 -- What a run of the program owes to its words, its disk and its source: how it ends, and what it
 -- writes.
 use Rattle.std.specs.Prelude.{◌≡◌, ℕ, zero, suc, List, [], ◌++◌, Option, None, Some, Result, Ok, Err, Bool, true, false, ◌==◌, codes, decimal, drop, length, nat_lt, take, if◌then◌else◌}
-use Rattle.std.specs.Io.KnownBytes.{Appends, Keeps}
-use Rattle.clap.specs.Kinds.{Kinds, IsAmong}
-use Rattle.clap.specs.Walk.{Text}
+use Rattle.std.specs.Io.KnownBytes.{Appends}
 use Rattle.clap.specs.declared.error.kind.ErrorKind.{ErrorKind}
 use Rattle.gl_base.specs.TxId.{text_of}
 use Rattle.gl_base.specs.declared.json.FormsFault.{FormsFault}
@@ -39,7 +37,6 @@ use Rattle.gl_receipt.specs.Form.{receipt_from}
 use Rattle.gl_receipt.specs.Verdict.{verdict}
 use Rattle.gl_receipt.specs.declared.components.Receipt.{Receipt}
 use Rattle.gl_receipt.specs.declared.fault.ReceiptFault.{ReceiptFault}
-use Rattle.gl_entry.specs.SourceBytes.{OfBytes}
 use Rattle.gl_recovery.specs.RecoveryOutput.{expected_recover, is_source_read}
 use Rattle.gl_recovery.specs.declared.recovering_fault.RecoveringFault.{RecoveringFault}
 use Rattle.gl_recovery.specs.declared.recovering_fault.RecoveringFault.TheVariants as recoverings
@@ -55,12 +52,9 @@ use Rattle.ccfg.specs.declared.ending.Ending.TheVariants as endings
 use Rattle.gl_schedule.specs.declared.schedule.Schedule.{Schedule}
 use Rattle.ccfg.specs.declared.plan.PlanError.{PlanError}
 use Rattle.ccfg.specs.declared.plan.PlanError.TheVariants as stops
-use Rattle.gl_commands.specs.declared.task.Asked.{Asked}
-use Rattle.gl_commands.specs.declared.task.Asked.TheVariants as asks
 use Rattle.gl_commands.specs.declared.task.LoadTask.{LoadTask}
 use Rattle.gl_commands.specs.declared.task.Task.{Task}
 use Rattle.gl_commands.specs.declared.task.Task.TheVariants as tasks
-use Rattle.gl_commands.specs.Words.{asked}
 use Rattle.ccfg.specs.Faults.{fault_line}
 use Rattle.gl_schedule.specs.Schedules.{reads}
 use Rattle.gl_schedule.specs.Output.{text_of_schedule}
@@ -364,25 +358,6 @@ output_of (tasks.Deal threshold members) shown given = output_of_dealing thresho
 output_of (tasks.Sign signing) shown given = output_of_signing signing shown.opens given
 output_of tasks.Recover shown given = output_of_recovering shown.opens given
 
--- The task that words ask for. To serve as a node and to make a ledger are no tasks: they have
--- promises of their own.
-abbrev pub task_of : Result Asked Kinds → Result Task Kinds
-task_of (Err kinds) = Err kinds
-task_of (Ok (asks.Task task)) = Ok task
-task_of (Ok (asks.Node node)) = Err []
-task_of (Ok (asks.Load load)) = Err []
-
--- Whether words ask for what is no task.
-abbrev pub asks_beyond : Result Asked Kinds → Bool
-asks_beyond (Err kinds) = false
-asks_beyond (Ok (asks.Task task)) = false
-asks_beyond (Ok (asks.Node node)) = true
-asks_beyond (Ok (asks.Load load)) = true
-
--- The words ask for a task, or for nothing.
-abbrev pub AsksTaskOrNothing : List Text → Type 0
-AsksTaskOrNothing words = asks_beyond (asked words) ≡ false
-
 -- Whether a task uses the disk.
 abbrev pub uses_disk : Task → Bool
 uses_disk tasks.Replay = false
@@ -402,6 +377,16 @@ leaf_use (tasks.Keygen kind types) = None
 leaf_use (tasks.Deal threshold members) = None
 leaf_use (tasks.Sign signing) = Some (use_of signing)
 leaf_use tasks.Recover = Some Start
+
+-- Of which kind the key of the disk's file has to be, if a task uses one.
+abbrev pub key_kind : Task → Option KeyKind
+key_kind tasks.Replay = None
+key_kind (tasks.Verify identity) = None
+key_kind (tasks.Audit identity) = None
+key_kind (tasks.Keygen kind types) = None
+key_kind (tasks.Deal threshold members) = None
+key_kind (tasks.Sign signing) = Some (kind_of signing)
+key_kind tasks.Recover = Some Node
 
 -- What holds of what a disk shows: of an honest disk of what its bytes show, of another one of
 -- something that a disk may show.
@@ -437,66 +422,10 @@ WritesOutput endings.OtherWords w output = Writes endings.OtherWords w output
 WritesOutput endings.PastLimit w output = Writes endings.PastLimit w output
 WritesOutput endings.NoReading w output = Writes endings.NoReading w output
 
--- The disk of a run: whether it is honest, what it held before the run, and its counts of faults
--- before it and after it.
-pub record OnDisk : Type 0 where
-  pub honest : Bool
-  pub held : List ℕ
-  pub faults : ℕ
-  pub faults_now : ℕ
-
--- With what a run began, and what it left.
-pub record Run : Type 0 where
-  pub disk : OnDisk
-  -- what the source had to give, where it tells that, whether it gave its end, and its counts of
-  -- faults
-  pub given : Option (List ℕ)
-  pub ended : Bool
-  pub faults : ℕ
-  pub faults_now : ℕ
-  pub written : Written
-
--- What a run owes is a function of what the disk showed and of what the source had to give.
-abbrev pub Expected : Type 0
-Expected = Shown → List ℕ → Output
-
--- What holds of both.
-abbrev pub OfRun : Run → (Shown → List ℕ → Type 0) → Type 0
-OfRun r P = OfShown r.disk.honest r.disk.held (λ shown. OfBytes r.given (λ given. P shown given))
-
-abbrev pub Owes : Ending → Run → Expected → Type 0
-Owes e r output = OfRun r (λ shown given. WritesOutput e r.written (output shown given))
-
 -- Where a source is read whole, it gave its end.
 abbrev pub EndsSource : Output → Bool → Type 0
 EndsSource output ended = output.whole ≡ true → ended ≡ true
 
--- The bytes are owed this, and where they are to be read whole, they were.
-abbrev pub OwesRead : Ending → Run → Expected → Type 0
-OwesRead e r output = OfRun r (λ shown given.
-    EndsSource (output shown given) r.ended × WritesOutput e r.written (output shown given))
-
--- What a task does that owes this. Where the source or the disk failed, by its count of faults,
--- nothing is written. Else the expected output is; and the source gave its end where it is done,
--- and where else the source is read whole.
-abbrev pub Runs : Ending → Run → Expected → Type 0
-Runs endings.SourceFailed r output =
-    Rose r.faults r.faults_now × Keeps r.written.held r.written.holds
-Runs endings.DiskFailed r output =
-    Rose r.disk.faults r.disk.faults_now × Keeps r.written.held r.written.holds
-Runs endings.LinkFailed r output = ⊥
-Runs endings.Done r output = (r.ended ≡ true) × Owes endings.Done r output
-Runs endings.NotValid r output = OwesRead endings.NotValid r output
-Runs endings.OtherWords r output = Owes endings.OtherWords r output
-Runs endings.SinkFailed r output = Owes endings.SinkFailed r output
-Runs endings.Memory r output = Owes endings.Memory r output
-Runs endings.PastLimit r output = OwesRead endings.PastLimit r output
-Runs endings.NoReading r output = OwesRead endings.NoReading r output
-
--- What the program does, by what its words ask for: a task is run, and of words that ask for
--- nothing one kind of fault is reported.
-abbrev pub Answers : Result Task Kinds → Ending → Run → Type 0
-Answers (Ok task) e r = Runs e r (output_of task)
-Answers (Err kinds) e r =
-    (kind : ErrorKind) × IsAmong kind kinds
-    × WritesOutput e r.written (output_of_fault (faults.Words kind))
+-- A prefix of such a text was written.
+abbrev pub PrintsPrefix : (List ℕ → Type 0) → Option (List ℕ) → Option (List ℕ) → Type 0
+PrintsPrefix P held holds = (text : List ℕ) × P text × AppendsPrefix held holds text

@@ -8,14 +8,13 @@ use Rattle.gl_ledger.specs.LedgerBook.{ServiceBook}
 use Rattle.gl_entry.specs.SourceBytes.{OfBytes}
 use Rattle.gl_outside.specs.Disk.{Leaves, Step}
 use Rattle.gl_outside.specs.Fault.{Rose}
-use Rattle.gl_outside.specs.Link.{Exchange, Inward}
 use Rattle.gl_journal.specs.Durable.{Durable, OpensToTheSame}
 use Rattle.gl_journal.specs.Records.{key_kind_tag}
 use Rattle.gl_journal.specs.declared.fault.JournalFault.{JournalFault}
 use Rattle.gl_journal.specs.declared.key.KeyKind.TheVariants as kinds
 use Rattle.gl_store_book.specs.AtOpening.{node_at_opening, opened_state, opening_size, restarted_node}
 use Rattle.gl_store_book.specs.Frames.{goes_on_ledger}
-use Rattle.gl_store_book.specs.NodeFile.{opened}
+use Rattle.gl_store_book.specs.NodeFile.{OpensOnlyTo, opened}
 use Rattle.gl_store_book.specs.Replicas.{StandsForFile}
 use Rattle.gl_store_book.specs.ServiceStart.{start_in}
 use Rattle.gl_store_book.specs.Stands.{NodeStore, Stands}
@@ -30,8 +29,8 @@ use Rattle.gl_serve.specs.OverLink.{KeepsLeaves}
 use Rattle.gl_serve.specs.NodeWork.{serving_rules}
 use Rattle.gl_serve.specs.Types.{NodeSeen}
 use Rattle.ccfg.specs.Faults.{fault_line}
-use Rattle.ccfg.specs.ExpectedOutput.{Written}
-use Rattle.ccfg.specs.Promises.{PrintsPrefix}
+use Rattle.ccfg.specs.ExpectedOutput.{PrintsPrefix}
+use Rattle.ccfg.specs.Run.{LinkRun, Run}
 use Rattle.ccfg.specs.declared.ending.Ending.{Ending}
 use Rattle.ccfg.specs.declared.ending.Ending.TheVariants as endings
 use Rattle.ccfg.specs.declared.fault.Fault.TheVariants as printed
@@ -125,33 +124,15 @@ abbrev pub IsAsked : NodeTask → Serving → Type 0
 IsAsked task s =
     (s.peers.now ≡ task.peers) × (s.ticks ≡ task.ticks) × (s.turns ≡ task.turns)
 
--- A link, as contracts see it.
-pub record OnLink : Type 0 where
-  pub past : List Exchange
-  pub inward : Inward
-
--- With what a run of a node began, and what it left.
-pub record NodeRun (D : Type 0) : Type 0 where
-  pub disk : D
-  pub disk_now : D
-  -- what the source had to give, where it tells that, whether it gave its end, and its counts of
-  -- faults
-  pub given : Option (List ℕ)
-  pub ended : Bool
-  pub faults : ℕ
-  pub faults_now : ℕ
-  pub link : OnLink
-  pub link_now : OnLink
-  pub written : Written
-
 -- Over a disk with these bytes and this history, and its count of faults.
 module _ {D : Type 0} (honest : Bool) (bytes : D → List ℕ) (past : D → List Step)
     (faults_of : D → ℕ) where
-  -- A node began so: of the rules it is this one, and an honest disk keeps that.
+  -- A node began so: of the rules it is this one, and an honest disk keeps that, whatever comes.
   pub record BeginsAs (b : Beginning) (d : Durable) (first : NodeSeen D NodeStore) : Type 0 where
     pub stands : StandsForFile d first.core b.node
     pub going : first.stopped ≡ None
     pub keeps : IsTrue honest → opened (bytes first.disk) ≡ Ok b.state
+    pub only : IsTrue honest → OpensOnlyTo (past first.disk) b.state
 
   -- By what the disk's bytes opened to and the source gave.
   pub record BeginsBy (opens : Result Durable JournalFault) (given : List ℕ)
@@ -162,63 +143,73 @@ module _ {D : Type 0} (honest : Bool) (bytes : D → List ℕ) (past : D → Lis
     pub begins : beginning_of opens given ≡ Ok start
     pub began : BeginsAs start state first
 
-  module _ (honest_link : Bool) (task : NodeTask) (r : NodeRun D) where
-    -- It began so from its file and the source, and what it then did over the link came to this
-    -- end.
-    pub record Served (end : Result (ℕ × ℕ) ServeEnd) : Type 0 where
-      pub settings : Serving
-      pub asked : IsAsked task settings
-      pub first : NodeSeen D NodeStore
-      pub begins : OfOpened honest (bytes r.disk) (λ opens. OfBytes r.given (λ given.
-          BeginsBy opens given first))
-      pub last : NodeSeen D NodeStore
-      pub course : Serves honest_link
-          (serving_rules Stands goes_on_ledger honest bytes past faults_of) settings
-          first r.link.past r.link.inward.coming
-          last r.link_now.past r.link_now.inward.coming end
-      pub disk : last.disk ≡ r.disk_now
+-- With this task, these objects, and this link.
+module _ {S D L : Type 0} (task : NodeTask) (r : Run S D) (link : LinkRun L) where
+  -- What holds of what the disk's bytes opened to, and of the bytes of the source.
+  abbrev pub OfBeginning : (Result Durable JournalFault → List ℕ → Type 0) → Type 0
+  OfBeginning P =
+      OfOpened r.disk.honest (r.disk.bytes r.disk.before) (λ opens.
+      OfBytes r.source.given (λ given. P opens given))
 
-    -- It didn't begin, by this fault, and left the link as it was.
-    abbrev pub NotBegun : OpeningFault → Type 0
-    NotBegun fault =
-        OfOpened honest (bytes r.disk) (λ opens. OfBytes r.given (λ given.
-        beginning_of opens given ≡ Err fault)) × (r.link_now ≡ r.link)
+  -- It began so from its file and the source, and what it then did over the link came to this end.
+  pub record Served (end : Result (ℕ × ℕ) ServeEnd) : Type 0 where
+    pub settings : Serving
+    pub asked : IsAsked task settings
+    pub first : NodeSeen D NodeStore
+    pub begins : OfBeginning (λ opens given.
+        BeginsBy r.disk.honest r.disk.bytes r.disk.past r.disk.faults opens given first)
+    pub last : NodeSeen D NodeStore
+    pub course : Serves link.honest
+        (serving_rules Stands goes_on_ledger r.disk.honest r.disk.bytes r.disk.past r.disk.faults)
+        settings
+        first (link.past link.before) (link.inward link.before).coming
+        last (link.past link.after) (link.inward link.after).coming end
+    pub disk : last.disk ≡ r.disk.after
 
-    -- A expected text: why it didn't begin, the counts, or that its turns are over.
-    abbrev pub NodeOutput : List ℕ → Type 0
-    NodeOutput text =
-        ((fault : OpeningFault) × NotBegun fault × (text ≡ fault_line (printed.Opening fault)))
-        ⊎ ((counts : ℕ × ℕ) × Served (Ok counts) × (text ≡ served_line counts))
-        ⊎ (Served (Err ends.Turns) × (text ≡ fault_line (printed.Turns task.turns)))
+  -- It didn't begin: nothing was sent or asked for.
+  abbrev pub LeavesLink : Type 0
+  LeavesLink = link.after ≡ link.before
 
-    -- What a run comes to, by how it ends.
-    abbrev pub NodeRuns : Ending → Type 0
-    NodeRuns endings.Done =
-        (r.link_now.inward.ended ≡ true)
-        × OfOpened honest (bytes r.disk) (λ opens. HasLedger opens ⊎ (r.ended ≡ true))
-        × (counts : ℕ × ℕ) × Served (Ok counts)
-        × Appends r.written.held r.written.holds (served_line counts)
-    NodeRuns endings.NotValid =
-        (fault : OpeningFault) × NotBegun fault
-        × Appends r.written.held r.written.holds (fault_line (printed.Opening fault))
-    NodeRuns endings.OtherWords = ⊥
-    NodeRuns endings.SourceFailed =
-        Rose r.faults r.faults_now × (r.link_now ≡ r.link)
-        × Keeps r.written.held r.written.holds
-    NodeRuns endings.SinkFailed =
-        Rose r.written.faults r.written.faults_now
-        × PrintsPrefix NodeOutput r.written.held r.written.holds
-    NodeRuns endings.DiskFailed =
-        Rose (faults_of r.disk) (faults_of r.disk_now)
-        × Keeps r.written.held r.written.holds
-    NodeRuns endings.LinkFailed =
-        Rose r.link.inward.faults r.link_now.inward.faults × Served (Err ends.LinkFailed)
-        × Keeps r.written.held r.written.holds
-    NodeRuns endings.Memory =
-        Keeps r.written.held r.written.holds
-        ⊎ PrintsPrefix NodeOutput r.written.held r.written.holds
-    NodeRuns endings.PastLimit =
-        (r.link_now.inward.calls ≡ calls_after task.turns r.link.inward.calls)
-        × Served (Err ends.Turns)
-        × Appends r.written.held r.written.holds (fault_line (printed.Turns task.turns))
-    NodeRuns endings.NoReading = ⊥
+  -- It didn't begin, by this fault.
+  abbrev pub NotBegun : OpeningFault → Type 0
+  NotBegun fault = OfBeginning (λ opens given. beginning_of opens given ≡ Err fault) × LeavesLink
+
+  -- An expected text: why it didn't begin, the counts, or that its turns are over.
+  abbrev pub NodeOutput : List ℕ → Type 0
+  NodeOutput text =
+      ((fault : OpeningFault) × NotBegun fault × (text ≡ fault_line (printed.Opening fault)))
+      ⊎ ((counts : ℕ × ℕ) × Served (Ok counts) × (text ≡ served_line counts))
+      ⊎ (Served (Err ends.Turns) × (text ≡ fault_line (printed.Turns task.turns)))
+
+  -- What a run comes to, by how it ends. Each one didn't begin, or served so far.
+  abbrev pub NodeRuns : Ending → Type 0
+  NodeRuns endings.Done =
+      ((link.inward link.after).ended ≡ true)
+      × OfOpened r.disk.honest (r.disk.bytes r.disk.before) (λ opens.
+      HasLedger opens ⊎ (r.source.ended ≡ true))
+      × (counts : ℕ × ℕ) × Served (Ok counts)
+      × Appends r.sink.held r.sink.holds (served_line counts)
+  NodeRuns endings.NotValid =
+      (fault : OpeningFault) × NotBegun fault
+      × Appends r.sink.held r.sink.holds (fault_line (printed.Opening fault))
+  NodeRuns endings.OtherWords = ⊥
+  NodeRuns endings.SourceFailed =
+      Rose r.source.faults r.source.faults_now × LeavesLink × Keeps r.sink.held r.sink.holds
+  NodeRuns endings.SinkFailed =
+      Rose r.sink.faults r.sink.faults_now
+      × PrintsPrefix NodeOutput r.sink.held r.sink.holds
+  NodeRuns endings.DiskFailed =
+      Rose (r.disk.faults r.disk.before) (r.disk.faults r.disk.after)
+      × (LeavesLink ⊎ Served (Err ends.Stopped)) × Keeps r.sink.held r.sink.holds
+  NodeRuns endings.LinkFailed =
+      Rose (link.inward link.before).faults (link.inward link.after).faults
+      × Served (Err ends.LinkFailed) × Keeps r.sink.held r.sink.holds
+  NodeRuns endings.Memory =
+      ((LeavesLink ⊎ Served (Err ends.NoMemory)) × Keeps r.sink.held r.sink.holds)
+      ⊎ PrintsPrefix NodeOutput r.sink.held r.sink.holds
+  NodeRuns endings.PastLimit =
+      ((link.inward link.after).calls ≡ calls_after task.turns (link.inward link.before).calls)
+      × ((link.inward link.after).ended ≡ (link.inward link.before).ended)
+      × Served (Err ends.Turns)
+      × Appends r.sink.held r.sink.holds (fault_line (printed.Turns task.turns))
+  NodeRuns endings.NoReading = ⊥

@@ -15,6 +15,8 @@ ghost use Rattle.gl_store_book.specs.declared.node_file.fault.OpeningFault.{Open
 ghost use Rattle.ccfg.specs.ExpectedOutput.{WritesOutput, output_of_answer, output_of_fault};
 ghost use Rattle.ccfg.specs.declared.fault.Fault.TheVariants as reported;
 ghost use Rattle.gl_serve.specs.OverLink.{KeepsLeaves};
+ghost use Rattle.ccfg.specs.NodeCommand.{NeedsNoSource};
+ghost use Rattle.ccfg.specs.Run.{disk_run, link_run, sink_run, source_run};
 ghost use Rattle.ccfg.specs.Nodes.{BeginsAs, BeginsBy, Beginning, HasLedger, MovesNode, NodeRuns, OfOpened, beginning, beginning_of, disk_after, has_ledger, reopened, served_line};
 
 use crate::ending::Ending;
@@ -64,6 +66,7 @@ fn stop_of(error: OrNoMemory<OpeningFault>) -> NodeError
 /// The node of a file goes on from what the file keeps.
 fn reopen<D: Disk + Drop>(file: NodeFile<D>) -> Result<Replica<D, StoreBook>, (NodeError, D)>
     requires kept { IsTrue D.honest → opened (D.bytes file.disk) ≡ Ok file.state }
+    requires only { IsTrue D.honest → OpensOnlyTo (D.past file.disk) file.state }
     ensures begins { IfOk result (λ replica. BeginsAs D.honest D.bytes D.past D.faults
         (reopened file.state) file.state replica) }
     ensures same { IfOk result (λ replica. replica.disk ≡ file.disk) }
@@ -173,6 +176,8 @@ fn open<S: Source, D: Disk + Drop>(
     ensures ended { IfOk result (λ replica. OfOpened D.honest (D.bytes disk) (λ opens.
         HasLedger opens ⊎ (S.ended source.new ≡ true))) }
     ensures going { IfOk result (λ replica. replica.stopped ≡ None) }
+    ensures unread { IsTrue D.honest → NeedsNoSource (opened (D.bytes disk)) →
+        source.new ≡ source.old }
     ensures source_failed { (back : D) → result ≡ Err (NodeError.SourceFailed, back) →
         Rose (S.faults source.old) (S.faults source.new) }
     ensures disk_failed { (back : D) → result ≡ Err (NodeError.DiskFailed, back) →
@@ -290,22 +295,13 @@ pub fn run_node<S: Source, K: Sink, D: Disk + Drop, L: Link, O: Observer>(
     observer: O,
 ) -> (Ending, D)
     requires ticks { 1 ≤ task.now.ticks }
-    ensures runs { NodeRuns D.honest D.bytes D.past D.faults L.honest task.now (record {
-      disk = disk;
-      disk_now = result.1;
-      given = S.left source.old;
-      ended = S.ended source.new;
-      faults = S.faults source.old;
-      faults_now = S.faults source.new;
-      link = record { past = L.past link.old; inward = L.inward link.old };
-      link_now = record { past = L.past link.new; inward = L.inward link.new };
-      written = record {
-        held = K.holds sink.old;
-        holds = K.holds sink.new;
-        faults = K.faults sink.old;
-        faults_now = K.faults sink.new;
-      };
-    }) result.0 }
+    ensures runs { NodeRuns task.now (record {
+      source = source_run S.left S.ended S.faults source.old source.new;
+      sink = sink_run K.holds K.faults sink.old sink.new;
+      disk = disk_run D.honest D.bytes D.past D.faults disk result.1;
+    }) (link_run L.honest L.past L.inward link.old link.new) result.0 }
+    ensures unread { IsTrue D.honest → NeedsNoSource (opened (D.bytes disk)) →
+        source.new ≡ source.old }
     ensures any_moment { IsTrue D.honest → HasGate journal_header (D.bytes disk) →
         MovesNode (D.bytes disk) (D.past disk) (D.past result.1) }
 {

@@ -6,10 +6,12 @@ ghost use Rattle.gl_entry.specs.SourceBytes.{OfBytes};
 ghost use Rattle.gl_journal.specs.Durable.{journal_header};
 ghost use Rattle.gl_journal.specs.Parts.{HasGate};
 ghost use Rattle.gl_journal.specs.declared.key.KeyKind.{KeyKind};
+ghost use Rattle.gl_keyfile.specs.KeyFile.{opened};
 ghost use Rattle.gl_keyfile.specs.declared.leaf.LeafUse.{LeafUse};
 ghost use Rattle.gl_hss.specs.declared.types.Types.{Types};
-ghost use Rattle.ccfg.specs.ExpectedOutput.{EndsSource, OfShown, bytes_limit, ending_of_stop, leaf_use, output_of, output_of_schedule, uses_disk};
+ghost use Rattle.ccfg.specs.ExpectedOutput.{EndsSource, OfShown, bytes_limit, ending_of_stop, key_kind, leaf_use, output_of, output_of_schedule, uses_disk};
 ghost use Rattle.ccfg.specs.Plans.{IsUntouched, MovesByLeaf, OpensAsBefore, PlansPlayable, PrintsFault, PrintsSpent, ShowsAccepted, ShowsKept, output_of_plan};
+ghost use Rattle.ccfg.specs.SignCommand.{HasNoKey};
 ghost use Rattle.gl_commands.specs.declared.task.Task.TheVariants.{Keygen};
 
 use crate::deal::read_dealing_plan;
@@ -149,6 +151,8 @@ pub fn read_plan<S: Source, D: Disk>(
         IsUntouched D.bytes D.past disk result.1 }
 
     // Something that is to be signed with a leaf of the file's key.
+    ensures unread_key { IsTrue D.honest → (kind : KeyKind) → key_kind task.now ≡ Some kind →
+        HasNoKey kind (opened (D.bytes disk)) → source.new ≡ source.old }
     ensures spent { IsTrue D.honest → (leaf : LeafUse) → leaf_use task.now ≡ Some leaf →
         IfOk result.0 (λ plan. PrintsSpent leaf (D.bytes disk) (D.past result.1) plan) }
     ensures unspent { IsTrue D.honest → (leaf : LeafUse) → leaf_use task.now ≡ Some leaf →

@@ -7,7 +7,7 @@ ghost use Rattle.gl_entry.specs.SourceBytes.{OfBytes};
 ghost use Rattle.gl_journal.specs.Durable.{OpensToOneOf, journal_header};
 ghost use Rattle.gl_journal.specs.Parts.{HasGate};
 ghost use Rattle.gl_journal.specs.declared.key.KeyKind.TheVariants.{Node};
-ghost use Rattle.gl_keyfile.specs.KeyFile.{IsOpened, any_frame, disk_of, held};
+ghost use Rattle.gl_keyfile.specs.KeyFile.{IsOpened, any_frame, disk_of, held, opened};
 ghost use Rattle.gl_keyfile.specs.Leaf.{after_leaf};
 ghost use Rattle.gl_keyfile.specs.declared.leaf.LeafUse.TheVariants.{Start};
 ghost use Rattle.gl_outside.specs.Disk.{Leaves};
@@ -16,6 +16,7 @@ ghost use Rattle.gl_recovery.specs.RecoveryOutput.{is_of_outside, is_source_read
 ghost use Rattle.gl_recovery.specs.declared.recovering_fault.RecoveringFault.TheVariants.{DiskFailed, SourceFailed};
 ghost use Rattle.ccfg.specs.ExpectedOutput.{EndsSource, OfShown, output_of_old, output_of_recovered, output_of_recovering};
 ghost use Rattle.ccfg.specs.Plans.{MovesByLeaf, OpensAsBefore, PlansPlayable, PrintsFault, PrintsSpent, output_of_plan};
+ghost use Rattle.ccfg.specs.SignCommand.{HasNoKey};
 
 use crate::fault::Fault;
 use crate::plan::{Plan, PlanError};
@@ -94,6 +95,8 @@ pub fn recovering_plan<S: Source, D: Disk>(
         Rose (S.faults source.old) (S.faults source.new) }
     ensures disk_failed { result.0 ≡ Err PlanError.DiskFailed →
         Rose (D.faults disk) (D.faults result.1) }
+    ensures unread { IsTrue D.honest → HasNoKey Node (opened (D.bytes disk)) →
+        source.new ≡ source.old }
     ensures spent { IsTrue D.honest → IfOk result.0 (λ plan.
         PrintsSpent Start (D.bytes disk) (D.past result.1) plan) }
     ensures refused { IsTrue D.honest → IfOk result.0 (λ plan. PrintsFault plan →

@@ -6,7 +6,7 @@ ghost use Rattle.gl_entry.specs.SourceBytes.{OfBytes};
 ghost use Rattle.gl_base.specs.declared.or_no_memory.OrNoMemory.{OrNoMemory};
 ghost use Rattle.gl_consortium.specs.declared.fault.SigningFault.{SigningFault};
 ghost use Rattle.gl_journal.specs.declared.fault.JournalFault.{JournalFault};
-ghost use Rattle.gl_keyfile.specs.KeyFile.{IsOpened, any_frame, disk_of, held};
+ghost use Rattle.gl_keyfile.specs.KeyFile.{IsOpened, any_frame, disk_of, held, opened};
 ghost use Rattle.gl_keyfile.specs.Leaf.{after_leaf};
 ghost use Rattle.gl_keyfile.specs.SigningRequest.{kind_of, use_of};
 ghost use Rattle.gl_journal.specs.Durable.{OpensToOneOf, journal_header};
@@ -16,6 +16,7 @@ ghost use Rattle.gl_keyfile.specs.declared.fault.KeyFileFault.{KeyFileFault};
 ghost use Rattle.gl_outside.specs.Fault.{Rose};
 ghost use Rattle.ccfg.specs.ExpectedOutput.{EndsSource, OfShown, json_limit, output_of_signed, output_of_signing, output_of_text};
 ghost use Rattle.ccfg.specs.Plans.{MovesByLeaf, OpensAsBefore, PlansPlayable, PrintsFault, PrintsSpent, PrintsUnopened, output_of_plan};
+ghost use Rattle.ccfg.specs.SignCommand.{HasNoKey};
 
 use crate::fault::Fault;
 use crate::plan::{Plan, PlanError};
@@ -146,6 +147,8 @@ pub fn signing_plan<S: Source, D: Disk>(
         Rose (S.faults source.old) (S.faults source.new) }
     ensures disk_failed { result.0 ≡ Err PlanError.DiskFailed →
         Rose (D.faults disk) (D.faults result.1) }
+    ensures unread { IsTrue D.honest → HasNoKey (kind_of signing.now) (opened (D.bytes disk)) →
+        source.new ≡ source.old }
     ensures spent { IsTrue D.honest → IfOk result.0 (λ plan.
         PrintsSpent (use_of signing.now) (D.bytes disk) (D.past result.1) plan) }
     ensures refused { IsTrue D.honest → IfOk result.0 (λ plan. PrintsFault plan →

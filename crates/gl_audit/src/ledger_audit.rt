@@ -1,6 +1,6 @@
 //! The audit of a ledger, entry by entry.
 
-ghost use Rattle.std.specs.Prelude.{◌≡◌, ◌+◌, length, ◌≤◌, [], Bool, true, Err, Ok, IfOk};
+ghost use Rattle.std.specs.Prelude.{◌≡◌, ◌≢◌, ◌+◌, length, ◌≤◌, [], Bool, true, Err, Ok, IfOk};
 ghost use Rattle.gl_base.specs.declared.or_no_memory.OrNoMemory.TheVariants.{Fault};
 ghost use Rattle.gl_outside.specs.Fault.{Rose};
 ghost use Rattle.gl_ledger.specs.Recordings.{last_entry};
@@ -61,6 +61,8 @@ fn take_entries<S: Source>(
     ensures ended { result ≡ Ok Stop.End → S.ended source.new ≡ true }
     ensures failed { (fault : ReadFaults) → result ≡ Err (Fault fault) →
         Rose (S.faults source.old) (S.faults source.new) }
+    ensures quiet { ((fault : ReadFaults) → result ≢ Err (Fault fault)) →
+        S.faults source.new ≡ S.faults source.old }
     ensures never_falls { S.faults source.old ≤ S.faults source.new }
 {
     let mut kept = ReadBuffer::new(alloc);
@@ -131,6 +133,8 @@ pub fn audit<S: Source>(
     ensures ended { IfOk result (λ reported. EndsWith reported (S.ended source.new)) }
     ensures failed { (fault : ReadFaults) → result ≡ Err (Fault fault) →
         Rose (S.faults source.old) (S.faults source.new) }
+    ensures quiet { ((fault : ReadFaults) → result ≢ Err (Fault fault)) →
+        S.faults source.new ≡ S.faults source.old }
     ensures never_falls { S.faults source.old ≤ S.faults source.new }
 {
     let mut state = LedgerState::new(alloc)?;

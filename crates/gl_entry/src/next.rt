@@ -1,6 +1,6 @@
 //! A ledger file, read entry by entry.
 
-ghost use Rattle.std.specs.Prelude.{◌≡◌, ◌≤◌, true, Err, Ok, IfOk, OnErr};
+ghost use Rattle.std.specs.Prelude.{◌≡◌, ◌≢◌, ◌≤◌, true, Err, Ok, IfOk, OnErr};
 ghost use Rattle.std.specs.Io.KnownBytes.{Keeps};
 ghost use Rattle.gl_base.specs.declared.or_no_memory.OrNoMemory.TheVariants.{Fault};
 ghost use Rattle.gl_outside.specs.Fault.{Rose};
@@ -48,6 +48,8 @@ pub fn read_next<S: Source>(
         (to_read kept.new (S.left source.new))) }
     ensures failed { (fault : ReadFaults) → result ≡ Err (Fault fault) →
         Rose (S.faults source.old) (S.faults source.new) }
+    ensures quiet { ((fault : ReadFaults) → result ≢ Err (Fault fault)) →
+        S.faults source.new ≡ S.faults source.old }
     ensures never_falls { S.faults source.old ≤ S.faults source.new }
 {
     match read_entry(alloc, source, kept) {

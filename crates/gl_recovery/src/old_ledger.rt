@@ -1,6 +1,6 @@
 //! The old ledger, read from a source.
 
-ghost use Rattle.std.specs.Prelude.{◌≡◌, ◌≤◌, suc, [], ◌∷◌, ◌++◌, true, length, None, Ok, Err, IfOk, IfErr, OnOk};
+ghost use Rattle.std.specs.Prelude.{◌≡◌, ◌≢◌, ◌≤◌, suc, [], ◌∷◌, ◌++◌, true, length, None, Ok, Err, IfOk, IfErr, OnOk};
 ghost use Rattle.gl_base.specs.Answers.{Answers};
 ghost use Rattle.gl_base.specs.declared.or_no_memory.OrNoMemory.TheVariants.{Fault};
 ghost use Rattle.gl_outside.specs.Fault.{Rose};
@@ -67,6 +67,8 @@ pub(crate) fn read_ledger<S: Source>(
     ensures ended { OnOk result (S.ended source.new ≡ true) }
     ensures failed { result ≡ Err (Fault RecoveryFault.SourceFailed) →
         Rose (S.faults source.old) (S.faults source.new) }
+    ensures quiet { result ≢ Err (Fault RecoveryFault.SourceFailed) →
+        S.faults source.new ≡ S.faults source.old }
     ensures never_falls { S.faults source.old ≤ S.faults source.new }
 {
     let mut store = Store::new(alloc)?;

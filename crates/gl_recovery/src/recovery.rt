@@ -52,6 +52,8 @@ fn start_with_key<S: Source>(
     ensures no_disk { result ≢ Err (Fault DiskFailed) }
     ensures failed { result ≡ Err (Fault SourceFailed) →
         Rose (S.faults source.old) (S.faults source.new) }
+    ensures quiet { result ≢ Err (Fault SourceFailed) →
+        S.faults source.new ≡ S.faults source.old }
     ensures never_falls { S.faults source.old ≤ S.faults source.new }
 {
     let by = private_key(alloc, key)?;
@@ -83,6 +85,8 @@ fn start_from_source<S: Source>(
     ensures no_disk { result ≢ Err (Fault DiskFailed) }
     ensures failed { result ≡ Err (Fault SourceFailed) →
         Rose (S.faults source.old) (S.faults source.new) }
+    ensures quiet { result ≢ Err (Fault SourceFailed) →
+        S.faults source.new ≡ S.faults source.old }
     ensures never_falls { S.faults source.old ≤ S.faults source.new }
 {
     let text = read_settings(alloc, source)?;
@@ -150,6 +154,8 @@ pub fn recover<S: Source, D: Disk>(
         is_source_read fault ≡ true → S.ended source.new ≡ true }
     ensures source_failed { result.0 ≡ Err (Fault SourceFailed) →
         Rose (S.faults source.old) (S.faults source.new) }
+    ensures quiet { result.0 ≢ Err (Fault SourceFailed) →
+        S.faults source.new ≡ S.faults source.old }
     ensures never_falls { S.faults source.old ≤ S.faults source.new }
 {
     let reported = match start_from_source(alloc, source, file.key(), file.reserved()) {

@@ -1,6 +1,6 @@
 //! The settings of a recovery, read from the start of a source.
 
-ghost use Rattle.std.specs.Prelude.{◌≡◌, ◌≤◌, ◌<◌, length, true, false, Err, IfOk};
+ghost use Rattle.std.specs.Prelude.{◌≡◌, ◌≢◌, ◌≤◌, ◌<◌, length, true, false, Err, IfOk};
 ghost use Rattle.std.specs.Io.KnownBytes.{Consumes, IsAtEnd};
 ghost use Rattle.gl_base.specs.declared.or_no_memory.OrNoMemory.TheVariants.{Fault};
 ghost use Rattle.gl_outside.specs.Fault.{Rose};
@@ -34,6 +34,8 @@ fn read_up_to<S: Source>(
         fault ≡ RecoveringFault.SourceFailed }
     ensures failed { result ≡ Err (Fault RecoveringFault.SourceFailed) →
         Rose (S.faults source.old) (S.faults source.new) }
+    ensures quiet { result ≢ Err (Fault RecoveringFault.SourceFailed) →
+        S.faults source.new ≡ S.faults source.old }
     ensures never_falls { S.faults source.old ≤ S.faults source.new }
 {
     let mut prefix = Vec::new(alloc);
@@ -85,6 +87,8 @@ pub(crate) fn read_settings<S: Source>(
     ensures no_disk { result ≡ Err (Fault RecoveringFault.DiskFailed) → ⊥ }
     ensures failed { result ≡ Err (Fault RecoveringFault.SourceFailed) →
         Rose (S.faults source.old) (S.faults source.new) }
+    ensures quiet { result ≢ Err (Fault RecoveringFault.SourceFailed) →
+        S.faults source.new ≡ S.faults source.old }
     ensures never_falls { S.faults source.old ≤ S.faults source.new }
 {
     let head = read_up_to(alloc, LENGTH_LEN, source)?;

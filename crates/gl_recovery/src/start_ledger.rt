@@ -1,6 +1,6 @@
 //! The start of a recovery.
 
-ghost use Rattle.std.specs.Prelude.{◌≡◌, ◌≤◌, ◌<◌, ◌^◌, [], ◌∷◌, ◌++◌, None, true, length, Ok, Err, IfOk, OnOk};
+ghost use Rattle.std.specs.Prelude.{◌≡◌, ◌≢◌, ◌≤◌, ◌<◌, ◌^◌, [], ◌∷◌, ◌++◌, None, true, length, Ok, Err, IfOk, OnOk};
 ghost use Rattle.std.specs.List.{AllByRecursion, flat_map};
 ghost use Rattle.gl_base.specs.Answers.{Answers};
 ghost use Rattle.gl_base.specs.declared.or_no_memory.OrNoMemory.TheVariants.{Fault};
@@ -93,6 +93,8 @@ pub fn start<S: Source>(
         is_read_whole fault ≡ true → S.ended source.new ≡ true }
     ensures failed { result ≡ Err (Fault RecoveryFault.SourceFailed) →
         Rose (S.faults source.old) (S.faults source.new) }
+    ensures quiet { result ≢ Err (Fault RecoveryFault.SourceFailed) →
+        S.faults source.new ≡ S.faults source.old }
     ensures never_falls { S.faults source.old ≤ S.faults source.new }
 {
     let store = match read_ledger(alloc, source) {

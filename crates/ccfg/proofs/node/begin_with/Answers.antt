@@ -10,7 +10,7 @@ returns-in-Ok-clause-begins g c =
     let s = started.0 in
     let e = started.1 in
     let some : c.args.given.now ≢ [] = search rules in
-    (opened_by s c.args.file.state, begins_with c.args.file.state c.args.given.now s c.requires.none some e (c.in-Ok.ensures.fits s e), record { stands = c.in-Ok.ensures.stands s e; going = c.in-Ok.ensures.serves; keeps = λ honest. c.in-Ok.ensures.kept honest s e })
+    (opened_by s c.args.file.state, begins_with c.args.file.state c.args.given.now s c.requires.none some e (c.in-Ok.ensures.fits s e), record { stands = c.in-Ok.ensures.stands s e; going = c.in-Ok.ensures.serves; keeps = λ honest. c.in-Ok.ensures.kept honest s e; only = λ honest. c.in-Ok.ensures.after honest s e })
 
 pub returns-in-Err-clause-refused : goal.returns-in-Err-clause-refused
 returns-in-Err-clause-refused g c fault back e =

@@ -6,10 +6,11 @@ use Rattle.gl_journal.specs.declared.fault.JournalFault.{JournalFault}
 use Rattle.gl_journal.specs.declared.fault.JournalFault.TheVariants.{DiskFault}
 use Rattle.gl_journal.specs.declared.key.KeyKind.{KeyKind}
 use Rattle.gl_journal.specs.declared.key.KeyKind.TheVariants as kinds
+use Rattle.gl_store_book.specs.NodeFile.{opened}
 use Rattle.gl_store_book.specs.declared.node_file.fault.OpeningFault.TheVariants as faults
 use Rattle.ccfg.specs.Nodes.{beginning_of}
 use Rattle.ccfg.specs.declared.node.NodeError.TheVariants as NodeError
-use Rattle.ccfg.proofs.Beginnings.{of_honest, begins_of, by_bytes, by_opened, any_bytes, ledger_or_end, ok_map, of_kind, other_kind}
+use Rattle.ccfg.proofs.Beginnings.{of_honest, begins_of, by_bytes, by_opened, any_bytes, has_one, ledger_or_end, ok_map, of_kind, other_kind}
 use Rattle.ccfg.proofs.NodeMoments.{later_moments, opened_moments}
 use Rattle.ccfg.proofs.node.open.Goals as goal
 
@@ -65,3 +66,7 @@ returns-in-Ok-clause-any_moment g c honest gate =
 pub returns-in-Err-clause-any_moment : goal.returns-in-Err-clause-any_moment
 returns-in-Err-clause-any_moment g c honest gate =
     opened_moments (g.D.Disk.bytes c.args.disk) _ _ (c.in-Err.ensures.any_moment_err honest gate)
+
+pub returns-in-Ok-clause-unread : goal.returns-in-Ok-clause-unread
+returns-in-Ok-clause-unread g c honest none =
+    c.begin.ensures.unread (has_one (opened (g.D.Disk.bytes c.args.disk)) c.in-Ok.file.state (c.in-Ok.ensures.durable honest) c.in-Ok.ensures.kind none)

@@ -7,7 +7,7 @@ pub returns-in-Ok-clause-runs : goal.returns-in-Ok-clause-runs
 returns-in-Ok-clause-runs g c =
     let h = c.serve_replica-end.ensures in
     let printed = c.print_end.ensures in
-    serves_so g.D.Disk.honest g.D.Disk.bytes g.D.Disk.past g.D.Disk.faults g.L.Link.honest c.args.task.now _ c.serve_replica-end.result.0 c.print_end.result
+    serves_so c.args.task.now _ _ c.serve_replica-end.result.0 c.print_end.result
     (record { settings = _; asked = (c.as_slice.ensures, refl, refl); first = c.in-Ok.replica; begins = c.in-Ok.ensures.begins; last = h.serves.0; course = h.serves.2; disk = h.serves.1 })
     c.in-Ok.ensures.ended
     h.ended
@@ -24,7 +24,7 @@ pub returns-in-Err-clause-runs : goal.returns-in-Err-clause-runs
 returns-in-Err-clause-runs g c =
     let h = c.in-Err.ensures in
     let printed = c.print_stop.ensures in
-    stops_so g.D.Disk.honest g.D.Disk.bytes g.D.Disk.past g.D.Disk.faults g.L.Link.honest c.args.task.now _ c.in-Err.stop c.print_stop.result refl
+    stops_so c.args.task.now _ _ c.in-Err.stop c.print_stop.result refl
     (λ fault is. h.refused fault c.in-Err.disk (search (rules, is)))
     (λ is. h.source_failed c.in-Err.disk (search (rules, is)))
     (λ is. h.disk_failed c.in-Err.disk (search (rules, is)))

@@ -1,4 +1,4 @@
-use Rattle.std.proofs.Common.{Err, ap, ◌∙◌, inr, refl, rules}
+use Rattle.std.proofs.Common.{Err, ap, ◌∙◌, inr, rules}
 use Rattle.ccfg.specs.Faults.{fault_line}
 use Rattle.ccfg.specs.declared.fault.Fault.TheVariants.{TooMuchJson}
 use Rattle.ccfg.proofs.ExpectedOutputLaws.{kept, output_runs, spent, spent_or_refused, stop_runs}
@@ -20,11 +20,11 @@ returns-in-Ok-clause-signed g c = λ done honest leaf asks.
 pub returns-in-Err-clause-runs : goal.returns-in-Err-clause-runs
 returns-in-Err-clause-runs g c =
     let h = c.read_plan-plan.ensures in
-    rw c.ending.ensures (stop_runs c.in-Err.stop _ _ (λ is. h.failed (c.in-Err.is ∙ ap Err is)) (λ is. h.disk_failed (c.in-Err.is ∙ ap Err is)) (search rules) (λ text. search rules))
+    rw c.ending.ensures (stop_runs _ _ c.in-Err.stop (λ is. h.failed (c.in-Err.is ∙ ap Err is)) (λ is. h.disk_failed (c.in-Err.is ∙ ap Err is)) (search rules) (λ text. search rules))
 
 pub returns-in-Ok-clause-spent : goal.returns-in-Ok-clause-spent
 returns-in-Ok-clause-spent g c = λ honest is leaf asks.
     spent_or_refused leaf _ _ c.in-Ok.plan _ _ (rw c.in-Ok.is at (c.read_plan-plan.ensures.spent honest leaf asks)) c.carry_out.ensures is
 
 pub returns-in-Err-clause-spent : goal.returns-in-Err-clause-spent
-returns-in-Err-clause-spent g c = λ honest is leaf asks. inr (fault_line TooMuchJson, (TooMuchJson, refl), search rules)
+returns-in-Err-clause-spent g c = λ honest is leaf asks. inr (TooMuchJson, search rules)

@@ -1,30 +1,56 @@
-use Rattle.std.proofs.Common.{◌≡◌, Ok, inr, map, refl, rules}
+use Rattle.std.proofs.Common.{◌≡◌, Ok, map, refl, rules}
 use Rattle.std.specs.String.{string_bytes}
 use Rattle.gl_commands.specs.Words.{asked}
 use Rattle.gl_commands.specs.declared.task.Asked.TheVariants as asks_for
-use Rattle.ccfg.specs.Faults.{fault_line}
-use Rattle.ccfg.specs.declared.fault.Fault.TheVariants.{TooMuchJson}
-use Rattle.ccfg.proofs.MomentLemmas.{nothing_done}
-use Rattle.ccfg.proofs.AnswerLemmas.{memory_answers, same_load, same_node}
+use Rattle.ccfg.proofs.CommandLemmas.{as_asked, no_command, none_asked, nothing_does, nothing_reports, task_does, told}
+use Rattle.ccfg.proofs.ExpectedOutputLaws.{no_disk}
 use Rattle.ccfg.proofs.program.run.Goals as goal
 
-pub returns-clause-answers : goal.returns-clause-answers
-returns-clause-answers g c = memory_answers _ _ (λ text. search rules)
+pub returns-in-Ok-Task-clause-words : goal.returns-in-Ok-Task-clause-words
+returns-in-Ok-Task-clause-words g c kinds is =
+    let found : asked (map string_bytes c.args.words.now) ≡ Ok (asks_for.Task c.in-Ok-Task.task) = search (rules, c.in-Ok-Task.ensures.found) in
+    no_command (asked (map string_bytes c.args.words.now)) (asks_for.Task c.in-Ok-Task.task) kinds found is
 
-pub returns-clause-spent : goal.returns-clause-spent
-returns-clause-spent g c = λ honest is task leaf asks uses. inr (fault_line TooMuchJson, (TooMuchJson, refl), search rules)
+pub returns-in-Ok-Task-clause-command : goal.returns-in-Ok-Task-clause-command
+returns-in-Ok-Task-clause-command g c command asks =
+    let found : asked (map string_bytes c.args.words.now) ≡ Ok (asks_for.Task c.in-Ok-Task.task) = search (rules, c.in-Ok-Task.ensures.found) in
+    let h = c.execute.ensures in
+    as_asked _ _ _ (asked (map string_bytes c.args.words.now)) (asks_for.Task c.in-Ok-Task.task) command found asks
+    (task_does _ _ c.in-Ok-Task.task h.disk h.accepted h.kept h.not_empty h.unread h.untouched h.signed h.spent h.any_moment h.unspent h.unread_key h.runs, refl)
 
-pub returns-clause-any_moment : goal.returns-clause-any_moment
-returns-clause-any_moment g c = λ honest gate task leaf asks uses. nothing_done leaf _ _ _ refl
-
-pub returns-in-Ok-Node-clause-node : goal.returns-in-Ok-Node-clause-node
-returns-in-Ok-Node-clause-node g c node asks =
+pub returns-in-Ok-Node-clause-words : goal.returns-in-Ok-Node-clause-words
+returns-in-Ok-Node-clause-words g c kinds is =
     let found : asked (map string_bytes c.args.words.now) ≡ Ok (asks_for.Node c.in-Ok-Node.node) = search (rules, c.in-Ok-Node.ensures.found) in
-    let same : c.in-Ok-Node.node ≡ node = same_node (asked (map string_bytes c.args.words.now)) c.in-Ok-Node.node node found asks in
-    rw same at c.run_node.ensures.runs
+    no_command (asked (map string_bytes c.args.words.now)) (asks_for.Node c.in-Ok-Node.node) kinds found is
 
-pub returns-in-Ok-Load-clause-load : goal.returns-in-Ok-Load-clause-load
-returns-in-Ok-Load-clause-load g c load asks =
+pub returns-in-Ok-Node-clause-command : goal.returns-in-Ok-Node-clause-command
+returns-in-Ok-Node-clause-command g c command asks =
+    let found : asked (map string_bytes c.args.words.now) ≡ Ok (asks_for.Node c.in-Ok-Node.node) = search (rules, c.in-Ok-Node.ensures.found) in
+    let h = c.run_node.ensures in
+    as_asked _ _ _ (asked (map string_bytes c.args.words.now)) (asks_for.Node c.in-Ok-Node.node) command found asks
+    (record { exact = h.runs; any_moment = h.any_moment; unread = h.unread })
+
+pub returns-in-Ok-Load-clause-words : goal.returns-in-Ok-Load-clause-words
+returns-in-Ok-Load-clause-words g c kinds is =
     let found : asked (map string_bytes c.args.words.now) ≡ Ok (asks_for.Load c.in-Ok-Load.load) = search (rules, c.in-Ok-Load.ensures.found) in
-    let same : c.in-Ok-Load.load ≡ load = same_load (asked (map string_bytes c.args.words.now)) c.in-Ok-Load.load load found asks in
-    rw same at c.run_load.ensures
+    no_command (asked (map string_bytes c.args.words.now)) (asks_for.Load c.in-Ok-Load.load) kinds found is
+
+pub returns-in-Ok-Load-clause-command : goal.returns-in-Ok-Load-clause-command
+returns-in-Ok-Load-clause-command g c command asks =
+    let found : asked (map string_bytes c.args.words.now) ≡ Ok (asks_for.Load c.in-Ok-Load.load) = search (rules, c.in-Ok-Load.ensures.found) in
+    as_asked _ _ _ (asked (map string_bytes c.args.words.now)) (asks_for.Load c.in-Ok-Load.load) command found asks
+    (record { exact = c.run_load.ensures; source = refl; disk = record { same = refl; never = no_disk _ _ _ c.run_load.ensures } }, refl)
+
+pub returns-in-Err-Refused-clause-words : goal.returns-in-Err-Refused-clause-words
+returns-in-Err-Refused-clause-words g c kinds is =
+    told _ _ _ (asked (map string_bytes c.args.words.now)) c.in-Err-Refused.kind kinds (search (rules, c.in-Err-Refused.ensures.refused)) is c.refuse.ensures refl refl (no_disk _ _ _ c.refuse.ensures) refl
+
+pub returns-in-Err-Refused-clause-command : goal.returns-in-Err-Refused-clause-command
+returns-in-Err-Refused-clause-command g c command asks =
+    none_asked (asked (map string_bytes c.args.words.now)) c.in-Err-Refused.kind command (search (rules, c.in-Err-Refused.ensures.refused)) asks
+
+pub returns-clause-words : goal.returns-clause-words
+returns-clause-words g c kinds is = nothing_reports _ _ refl refl refl (search rules) (λ text. search rules) (map string_bytes c.args.words.now) kinds is
+
+pub returns-clause-command : goal.returns-clause-command
+returns-clause-command g c command asks = nothing_does _ _ refl refl refl (search rules) (λ text. search rules) command

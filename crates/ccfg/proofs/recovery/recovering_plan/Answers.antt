@@ -1,11 +1,11 @@
 use Rattle.std.proofs.Common.{Err, ap}
 use Rattle.gl_journal.specs.declared.key.KeyKind.TheVariants.{Node}
-use Rattle.gl_keyfile.specs.KeyFile.{disk_of, held}
+use Rattle.gl_keyfile.specs.KeyFile.{disk_of, held, opened}
 use Rattle.gl_keyfile.specs.declared.leaf.LeafUse.TheVariants.{Start}
 use Rattle.ccfg.specs.ExpectedOutput.{output_of_old}
 use Rattle.ccfg.proofs.ShownLemmas.{beside}
 use Rattle.ccfg.proofs.MomentLemmas.{opened_and_signed, opened_only}
-use Rattle.ccfg.proofs.SigningLemmas.{all_moved_spent, all_unopened_output, expected_with_key}
+use Rattle.ccfg.proofs.SigningLemmas.{all_moved_spent, all_unopened_output, expected_with_key, key_found}
 use Rattle.ccfg.proofs.recovery.recovering_plan.Goals as goal
 
 pub returns-in-Ok-clause-output : goal.returns-in-Ok-clause-output
@@ -35,3 +35,7 @@ returns-in-Ok-clause-any_moment g c = λ honest gate.
 pub returns-in-Err-clause-any_moment : goal.returns-in-Err-clause-any_moment
 returns-in-Err-clause-any_moment g c = λ honest gate.
     opened_only Start (g.D.Disk.bytes c.args.disk) (g.D.Disk.past c.args.disk) _ (c.in-Err.ensures.any_moment_err honest gate)
+
+pub returns-in-Ok-clause-unread : goal.returns-in-Ok-clause-unread
+returns-in-Ok-clause-unread g c honest none =
+    key_found Node (opened (g.D.Disk.bytes c.args.disk)) (held c.in-Ok.file) (c.in-Ok.ensures.durable honest) c.in-Ok.ensures.kind none

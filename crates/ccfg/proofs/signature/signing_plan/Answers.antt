@@ -1,10 +1,10 @@
 use Rattle.std.proofs.Common.{Err, ap, sym, ◌∙◌}
-use Rattle.gl_keyfile.specs.KeyFile.{disk_of, held}
+use Rattle.gl_keyfile.specs.KeyFile.{disk_of, held, opened}
 use Rattle.gl_keyfile.specs.SigningRequest.{kind_of, use_of}
 use Rattle.ccfg.specs.ExpectedOutput.{output_of_text}
 use Rattle.ccfg.proofs.ShownLemmas.{beside}
 use Rattle.ccfg.proofs.MomentLemmas.{opened_and_signed, opened_only}
-use Rattle.ccfg.proofs.SigningLemmas.{all_moved_spent, all_unopened_output, expected_with_key}
+use Rattle.ccfg.proofs.SigningLemmas.{all_moved_spent, all_unopened_output, expected_with_key, key_found}
 use Rattle.ccfg.proofs.signature.signing_plan.Goals as goal
 
 pub returns-in-Ok-clause-output : goal.returns-in-Ok-clause-output
@@ -34,3 +34,7 @@ returns-in-Ok-clause-any_moment g c = λ honest gate.
 pub returns-in-Err-clause-any_moment : goal.returns-in-Err-clause-any_moment
 returns-in-Err-clause-any_moment g c = λ honest gate.
     opened_only (use_of c.args.signing.now) (g.D.Disk.bytes c.args.disk) (g.D.Disk.past c.args.disk) _ (c.in-Err.ensures.any_moment_err honest gate)
+
+pub returns-in-Ok-clause-unread : goal.returns-in-Ok-clause-unread
+returns-in-Ok-clause-unread g c honest none =
+    key_found (kind_of c.args.signing.now) (opened (g.D.Disk.bytes c.args.disk)) (held c.in-Ok.file) (c.in-Ok.ensures.durable honest) (c.in-Ok.ensures.kind ∙ c.kind.ensures) none

@@ -17,7 +17,7 @@ loop-kept-preserved g c =
     let at = c.loop-kept.invariant.at in
     record {
       at = goes_on_at _ _ _ _ _ _ c.in-Entry.entry _ at c.in-Entry.is c.in_ok-entry.ensures.next c.in_default.is (c.in_ok-rule-in-Entry.ensures at.ledger at.stands);
-      never_falls = search rules;
+      quiet = search rules;
     }
 
 pub returns-in-End-clause-ends : goal.returns-in-End-clause-ends

@@ -1,4 +1,4 @@
-use Rattle.std.proofs.Common.{◌≤◌, ◌-◌}
+use Rattle.std.proofs.Common.{◌≡◌, ◌-◌}
 use Rattle.gl_base.specs.TxId.{last_seqno}
 use Rattle.gl_entry.specs.Stream.{to_read}
 use Rattle.gl_audit.proofs.Steps.{IsAt}
@@ -8,7 +8,7 @@ use Rattle.gl_audit.proofs.ledger_audit.take_entries.Given as goal
 abbrev pub invariant-loop-kept : goal.invariant-loop-kept
 invariant-loop-kept g l = record {
   at : IsAt (g.S.Source.left l.fn.source) (to_read l.kept (g.S.Source.left l.source)) l.state;
-  never_falls : g.S.Source.faults l.fn.source ≤ g.S.Source.faults l.source;
+  quiet : g.S.Source.faults l.source ≡ g.S.Source.faults l.fn.source;
 }
 
 abbrev pub decreases-loop-kept : goal.decreases-loop-kept

@@ -1,4 +1,4 @@
-use Rattle.std.proofs.Common.{ap, Err, ◌∙◌}
+use Rattle.std.proofs.Common.{ap, refl, Err, ◌∙◌}
 use Rattle.gl_base.specs.declared.or_no_memory.OrNoMemory.TheVariants.{Fault}
 use Rattle.gl_entry.proofs.FileSteps.{next_entry_taken, next_is_end, next_is_unread}
 use Rattle.gl_entry.proofs.next.read_next.Goals as goal
@@ -15,3 +15,6 @@ returns-in-Err-Fault-Entry-clause-next g c =
     next_is_unread _ _ _ c.in-Err-Fault-Entry.field-0-0-0
     (c.in-Err-Fault-Entry.ensures.fault _ (ap Err (c.in-Err-Fault-Entry.field-0-is ∙ ap Fault c.in-Err-Fault-Entry.field-0-0-is)))
     (c.in-Err-Fault-Entry.ensures.refused _ (ap Err (c.in-Err-Fault-Entry.field-0-is ∙ ap Fault c.in-Err-Fault-Entry.field-0-0-is)))
+
+pub returns-in-Err-Fault-Read-clause-quiet : goal.returns-in-Err-Fault-Read-clause-quiet
+returns-in-Err-Fault-Read-clause-quiet g c = λ none. absurd (none (record {}) refl)

@@ -1,4 +1,4 @@
-use Rattle.std.proofs.Common.{◌≡◌, ℕ, ap, ◌∙◌, sym, subst, arith, Err}
+use Rattle.std.proofs.Common.{◌≡◌, ℕ, ap, ◌∙◌, sym, subst, rules, Err}
 use Rattle.gl_audit.specs.Committed.{Held}
 use Rattle.gl_entry.specs.SourceBytes.{OfBytes}
 use Rattle.gl_entry.specs.LedgerFile.{ledger_file}
@@ -14,7 +14,7 @@ loop-entry-preserved g c =
       read = goes_on _ _ _ c.loop-entry.store c.take_entry.new.store c.in-Ok-Entry.field-0 c.in-Ok-Entry.entry c.loop-entry.invariant.read c.in-Ok-Entry.field-0-is c.in-Ok-Entry.ensures.next
           c.in_ok-take_entry-in-Ok-Entry.ensures.unbroken grown;
       uncommitted = ap (λ (h : Held). h.commit) grown ∙ c.loop-entry.invariant.uncommitted;
-      never_falls = omega (arith, c.read_next.ensures.never_falls, c.loop-entry.invariant.never_falls);
+      quiet = search rules;
     }
 
 pub returns-in_err-take_entry-in-Ok-Entry-clause-read : goal.returns-in_err-take_entry-in-Ok-Entry-clause-read

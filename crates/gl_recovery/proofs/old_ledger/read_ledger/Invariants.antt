@@ -1,4 +1,4 @@
-use Rattle.std.proofs.Common.{◌≡◌, ◌≤◌, ◌-◌, length}
+use Rattle.std.proofs.Common.{◌≡◌, ◌-◌, length}
 use Rattle.gl_base.specs.TxId.{last_seqno}
 use Rattle.gl_entry.specs.Stream.{to_read}
 use Rattle.gl_recovery.proofs.OldLedgers.{IsReadTo}
@@ -9,7 +9,7 @@ abbrev pub invariant-loop-entry : goal.invariant-loop-entry
 invariant-loop-entry g l = record {
   read : IsReadTo (g.S.Source.left l.fn.source) (to_read l.kept (g.S.Source.left l.source)) l.store.ledger;
   uncommitted : l.store.commit ≡ 0;
-  never_falls : g.S.Source.faults l.fn.source ≤ g.S.Source.faults l.source;
+  quiet : g.S.Source.faults l.source ≡ g.S.Source.faults l.fn.source;
 }
 
 abbrev pub decreases-loop-entry : goal.decreases-loop-entry

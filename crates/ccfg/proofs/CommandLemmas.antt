@@ -123,7 +123,7 @@ not_unsigned (inr (inr (inl is))) = cc
 not_unsigned (inr (inr (inr is))) = cc
 
 -- memory ran out before anything was done
-module _ {S D L : Type 0} (r : Run S D) (link : LinkRun L) (source : r.source.after ≡ r.source.before) (disk : r.disk.after ≡ r.disk.before) (same : link.after ≡ link.before)
+module _ {S D L : Type 0} (r : Run S D) (link : LinkRun L) (source : r.source.after ≡ r.source.before) (faults : r.source.faults_now ≡ r.source.faults) (disk : r.disk.after ≡ r.disk.before) (same : link.after ≡ link.before)
     (keeps : Keeps r.sink.held r.sink.holds) (prefix : (text : List ℕ) → AppendsPrefix r.sink.held r.sink.holds text) where
   untouched : IsUntouched r.disk.bytes r.disk.past r.disk.before r.disk.after
   untouched = record { bytes = ap r.disk.bytes disk; past = ap r.disk.past disk }
@@ -145,7 +145,7 @@ module _ {S D L : Type 0} (r : Run S D) (link : LinkRun L) (source : r.source.af
       (both_any r.disk.honest (r.disk.bytes r.disk.before) r.source.given (λ h g. Exits r endings.Memory (output_of task h g)) (λ h g. prefix (output_of task h g).text))
 
   pub nothing_does : (command : Asked) → Does command r link endings.Memory
-  nothing_does (asks.Task task) = (no_task task, same)
+  nothing_does (asks.Task task) = (no_task task, λ other. faults, same)
   nothing_does (asks.Node node) =
       record {
         exact = inl (inl same, keeps);

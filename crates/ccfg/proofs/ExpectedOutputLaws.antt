@@ -234,6 +234,19 @@ pub stop_runs : {S D : Type 0} (r : Run S D) (expected : Shown → List ℕ → 
 stop_runs r expected stop source disk keeps prefix =
     both_any r.disk.honest (r.disk.bytes r.disk.before) r.source.given (λ h g. Exits r (ending_of_stop stop) (expected h g)) (λ h g. stops_as r (expected h g) stop source disk keeps prefix)
 
+-- how a run ends
+pub as_due : {S D : Type 0} (r : Run S D) (e : Ending) (output : Output) → Exits r e output → (e ≡ output.ending) ⊎ (e ≡ endings.SourceFailed) ⊎ (e ≡ endings.SinkFailed) ⊎ (e ≡ endings.DiskFailed) ⊎ (e ≡ endings.Memory)
+as_due r endings.Done output exits = inl (sym exits.1.0)
+as_due r endings.NotValid output exits = inl (sym exits.1.0)
+as_due r endings.OtherWords output exits = inl (sym exits.0)
+as_due r endings.SourceFailed output exits = inr (inl refl)
+as_due r endings.SinkFailed output exits = inr (inr (inl refl))
+as_due r endings.DiskFailed output exits = inr (inr (inr (inl refl)))
+as_due r endings.LinkFailed output exits = absurd exits
+as_due r endings.Memory output exits = inr (inr (inr (inr refl)))
+as_due r endings.PastLimit output exits = inl (sym exits.1.0)
+as_due r endings.NoReading output exits = inl (sym exits.1.0)
+
 -- an ending by which something is refused, or the source failed
 abbrev pub Refuses : Ending → Type 0
 Refuses e = (e ≡ endings.NotValid) ⊎ (e ≡ endings.SourceFailed) ⊎ (e ≡ endings.PastLimit) ⊎ (e ≡ endings.NoReading)

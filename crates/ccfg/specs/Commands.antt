@@ -1,5 +1,5 @@
 -- What the program does, by what its words ask for. Each command has its file.
-use Rattle.std.specs.Prelude.{◌≡◌}
+use Rattle.std.specs.Prelude.{◌≡◌, ◌≢◌}
 use Rattle.clap.specs.Kinds.{Kinds, IsAmong}
 use Rattle.clap.specs.declared.error.kind.ErrorKind.{ErrorKind}
 use Rattle.ccfg.specs.AuditCommand.{AuditDoes}
@@ -14,6 +14,7 @@ use Rattle.ccfg.specs.Run.{IsUnread, LeavesDisk, LinkRun, Run}
 use Rattle.ccfg.specs.SignCommand.{SignDoes}
 use Rattle.ccfg.specs.VerifyCommand.{VerifyDoes}
 use Rattle.ccfg.specs.declared.ending.Ending.{Ending}
+use Rattle.ccfg.specs.declared.ending.Ending.TheVariants.{SourceFailed}
 use Rattle.ccfg.specs.declared.fault.Fault.TheVariants.{Words}
 use Rattle.gl_commands.specs.declared.task.Asked.{Asked}
 use Rattle.gl_commands.specs.declared.task.Asked.TheVariants as asks
@@ -30,9 +31,14 @@ TaskDoes (tasks.Deal threshold members) r e = DealDoes threshold members r e
 TaskDoes (tasks.Sign signing) r e = SignDoes signing r e
 TaskDoes tasks.Recover r e = RecoverDoes r e
 
+-- No other ending than that of a failed source hides that the source failed.
+abbrev pub TellsFailure : {S D : Type 0} → Run S D → Ending → Type 0
+TellsFailure r e = e ≢ SourceFailed → r.source.faults_now ≡ r.source.faults
+
 -- Each command.
 abbrev pub Does : {S D L : Type 0} → Asked → Run S D → LinkRun L → Ending → Type 0
-Does (asks.Task task) r link e = TaskDoes task r e × (link.after ≡ link.before)
+Does (asks.Task task) r link e =
+    TaskDoes task r e × TellsFailure r e × (link.after ≡ link.before)
 Does (asks.Load load) r link e = LoadDoes load r e × (link.after ≡ link.before)
 Does (asks.Node node) r link e = NodeDoes node r link e
 

@@ -110,6 +110,8 @@ fn plan_on_empty<S: Source, D: Disk>(
     ensures playable { IfOk result.0 (λ plan. PlansPlayable plan) }
     ensures failed { result.0 ≡ Err PlanError.SourceFailed →
         Rose (S.faults source.old) (S.faults source.new) }
+    ensures quiet { result.0 ≢ Err PlanError.SourceFailed →
+        S.faults source.new ≡ S.faults source.old }
     ensures disk_failed { result.0 ≡ Err PlanError.DiskFailed →
         Rose (D.faults disk) (D.faults result.1) }
     ensures kept { IsTrue D.honest → IfOk result.0 (λ plan. OfBytes (S.left source.old) (λ given.
@@ -150,6 +152,8 @@ pub fn keygen_plan<S: Source, D: Disk>(
     ensures playable { IfOk result.0 (λ plan. PlansPlayable plan) }
     ensures failed { result.0 ≡ Err PlanError.SourceFailed →
         Rose (S.faults source.old) (S.faults source.new) }
+    ensures quiet { result.0 ≢ Err PlanError.SourceFailed →
+        S.faults source.new ≡ S.faults source.old }
     ensures disk_failed { result.0 ≡ Err PlanError.DiskFailed →
         Rose (D.faults disk) (D.faults result.1) }
     ensures kept { IsTrue D.honest → IfOk result.0 (λ plan. OfBytes (S.left source.old) (λ given.

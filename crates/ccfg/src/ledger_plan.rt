@@ -43,6 +43,8 @@ pub fn read_ledger_plan<S: Source>(
     ensures playable { IfOk result (λ plan. PlansPlayable plan) }
     ensures failed { result ≡ Err PlanError.SourceFailed →
         Rose (S.faults source.old) (S.faults source.new) }
+    ensures quiet { result ≢ Err PlanError.SourceFailed →
+        S.faults source.new ≡ S.faults source.old }
     ensures no_disk { result ≢ Err PlanError.DiskFailed }
 {
     match audit(alloc, identity, source) {

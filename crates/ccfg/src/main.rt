@@ -6,6 +6,7 @@ mod ending;
 mod fault;
 mod invocation;
 mod keygen;
+mod laws;
 mod ledger_plan;
 mod load;
 mod node;

@@ -22,7 +22,7 @@ ghost use Rattle.ccfg.specs.Nodes.{BeginsAs, BeginsBy, Beginning, HasLedger, Mov
 use crate::ending::Ending;
 use crate::fault::Fault;
 use crate::output::{refuse, write_out};
-use crate::source_bytes::{ReadError, read_whole};
+use crate::source_bytes::{ReadError, read_to_end};
 use gl_base::OrNoMemory;
 use gl_commands::{NodeTask, put_number};
 use gl_journal::JournalFault;
@@ -31,9 +31,6 @@ use gl_outside::{Disk, Link, Sink, Source};
 use gl_serve::{Observer, ServeEnd, Serving, serve_replica};
 use gl_store_book::{NodeFile, OpeningFault, StoreBook};
 use std::alloc::{AllocError, Global};
-
-/// More bytes than any memory holds.
-const SOURCE_LIMIT: usize = 0x3fff_ffff_ffff_ffff;
 
 /// Why no node begins.
 #[derive(Clone, Copy, Debug, PartialEq, Eq)]
@@ -153,10 +150,11 @@ fn begin<S: Source, D: Disk + Drop>(
     if file.ledger_len() > 0 {
         return reopen(file);
     }
-    match read_whole(alloc, SOURCE_LIMIT, source) {
+    match read_to_end(alloc, source) {
         Ok(given) => begin_with(file, &given),
         Err(ReadError::Failed) => Err((NodeError::SourceFailed, file.into_disk())),
-        Err(ReadError::Memory | ReadError::TooLong) => Err((NodeError::Memory, file.into_disk())),
+        Err(ReadError::Memory) => Err((NodeError::Memory, file.into_disk())),
+        Err(ReadError::TooLong) => unreachable!(),
     }
 }
 

@@ -100,6 +100,8 @@ fn read_schedule_plan<S: Source>(alloc: Global, source: &mut S) -> Result<Plan, 
     ensures playable { IfOk result (λ plan. PlansPlayable plan) }
     ensures failed { result ≡ Err PlanError.SourceFailed →
         Rose (S.faults source.old) (S.faults source.new) }
+    ensures quiet { result ≢ Err PlanError.SourceFailed →
+        S.faults source.new ≡ S.faults source.old }
     ensures no_disk { result ≢ Err PlanError.DiskFailed }
 {
     match read_whole(alloc, BYTES_LIMIT, source) {
@@ -129,6 +131,8 @@ pub fn read_plan<S: Source, D: Disk>(
     ensures playable { IfOk result.0 (λ plan. PlansPlayable plan) }
     ensures failed { result.0 ≡ Err PlanError.SourceFailed →
         Rose (S.faults source.old) (S.faults source.new) }
+    ensures quiet { result.0 ≢ Err PlanError.SourceFailed →
+        S.faults source.new ≡ S.faults source.old }
     ensures disk_failed { result.0 ≡ Err PlanError.DiskFailed →
         Rose (D.faults disk) (D.faults result.1) }
     ensures disk { uses_disk task.now ≡ false →

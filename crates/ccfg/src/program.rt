@@ -75,6 +75,7 @@ fn execute<S: Source, K: Sink, D: Disk>(
         → leaf_use task.now ≡ Some leaf → OpensAsBefore (D.bytes disk) (D.bytes result.1) }
     ensures unread_key { IsTrue D.honest → (kind : KeyKind) → key_kind task.now ≡ Some kind
         → HasNoKey kind (opened (D.bytes disk)) → source.new ≡ source.old }
+    ensures quiet { result.0 ≢ SourceFailed → S.faults source.new ≡ S.faults source.old }
     ensures runs { ExitsByDisk (record {
       source = source_run S.left S.ended S.faults source.old source.new;
       sink = sink_run K.holds K.faults sink.old sink.new;

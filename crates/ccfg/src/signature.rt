@@ -110,6 +110,8 @@ fn plan_with_key<S: Source, D: Disk>(
     ensures playable { IfOk result.0 (λ plan. PlansPlayable plan) }
     ensures failed { result.0 ≡ Err PlanError.SourceFailed →
         Rose (S.faults source.old) (S.faults source.new) }
+    ensures quiet { result.0 ≢ Err PlanError.SourceFailed →
+        S.faults source.new ≡ S.faults source.old }
     ensures disk_failed { result.0 ≡ Err PlanError.DiskFailed →
         Rose (D.faults (disk_of file)) (D.faults result.1) }
     ensures spent { IsTrue D.honest → IfOk result.0 (λ plan.
@@ -145,6 +147,8 @@ pub fn signing_plan<S: Source, D: Disk>(
     ensures playable { IfOk result.0 (λ plan. PlansPlayable plan) }
     ensures failed { result.0 ≡ Err PlanError.SourceFailed →
         Rose (S.faults source.old) (S.faults source.new) }
+    ensures quiet { result.0 ≢ Err PlanError.SourceFailed →
+        S.faults source.new ≡ S.faults source.old }
     ensures disk_failed { result.0 ≡ Err PlanError.DiskFailed →
         Rose (D.faults disk) (D.faults result.1) }
     ensures unread { IsTrue D.honest → HasNoKey (kind_of signing.now) (opened (D.bytes disk)) →

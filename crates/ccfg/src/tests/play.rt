@@ -133,7 +133,10 @@ fn is_of_link(failing: Option<Failing>) -> bool {
 }
 
 fn is_of_disk(failing: Option<Failing>) -> bool {
-    matches!(what_fails(failing), Some(InTurn::Disk))
+    matches!(
+        what_fails(failing),
+        Some(InTurn::Disk | InTurn::ForeignDisk)
+    )
 }
 
 /// The calls of an object that fail: the one, or those of the row.

@@ -56,6 +56,8 @@ pub enum InTurn {
     Lines,
     /// Calls of the disk: 5, nothing is written, and nothing is sent of what isn't kept.
     Disk,
+    /// The same of a file that doesn't open: the disk stays as it was besides.
+    ForeignDisk,
     /// Calls for what comes next over the link: 6, and nothing is written.
     Nexts,
 }

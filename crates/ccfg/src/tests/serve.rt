@@ -119,6 +119,17 @@ const FAILURES: &[Run<'static>] = &[
         output: Output::Is(&[Text("fault NotOpening 1\n")]),
         ..BEGINNING
     },
+    // There is no limit on what the source gives.
+    Run {
+        name: "an opening ledger of more than 1 MiB",
+        input: &[Times(&[0], 1_048_577)],
+        piece: 65_536,
+        disk: Some(&[All(Disk("the node"))]),
+        status: 1,
+        output: Output::Is(&[Text("fault NotOpening 1\n")]),
+        is_read_whole: Some(true),
+        ..NODE
+    },
     Run {
         name: "a put that is refused",
         disk: Some(&[All(Disk("a question in pieces of one byte"))]),

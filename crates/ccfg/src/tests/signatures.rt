@@ -3,17 +3,20 @@
 
 use crate::tests::founding::{GENESIS, NODE_KEY, SETTINGS};
 use crate::tests::part::Of::{Disk, Written};
+use crate::tests::part::Part;
 use crate::tests::part::Part::{All, Hex, Member, Prefix, Text, Times};
 use crate::tests::receipts::IDENTITY;
-use crate::tests::run::{InTurn, Output, RUN, Run};
+use crate::tests::run::{InTurn, Output, RUN, Run, Words};
 use crate::tests::table::Table;
 use std::alloc::AllocError;
 use std::process::Abort;
 
 const ACK: &str = "{\"op\":\"ack\"}";
 
+const SIGN_WORDS: &[&str] = &["sign", "--identity", IDENTITY, "--member", "1"];
+
 const SIGN: Run<'static> = Run {
-    words: &["sign", "--identity", IDENTITY, "--member", "1"],
+    words: SIGN_WORDS,
     input: &[Text(ACK)],
     ..RUN
 };
@@ -96,6 +99,55 @@ const NO_KEYS: &[Run<'static>] = &[
         output: Output::Is(&[Text("fault NotJournal 7\n")]),
         ..SIGN
     },
+];
+
+/// A file that is a text.
+const TEXT: &[Part<'static>] = &[Text("To whom it may concern\n")];
+
+/// It stays byte for byte, also where a call of the disk fails, and the source is left unread.
+const TEXT_FILE: Run<'static> = Run {
+    name: "a text file",
+    disk: Some(TEXT),
+    disk_after: Some(TEXT),
+    reads: &[1],
+    status: 1,
+    in_turn: &[InTurn::ForeignDisk],
+    ..RUN
+};
+
+/// A key file that goes on with a record of a kind that there isn't, at place 57, and ends without
+/// the closed gate that an open file gets.
+const UNFOLDED: &[Part<'static>] = &[
+    Text("GLJOURN1"),
+    Hex("01 27000000 01 22000000 02 01"),
+    Times(&[7], 32),
+    Hex("01 01000000 63"),
+];
+
+const UNFOLDED_FILE: Run<'static> = Run {
+    name: "a record of no kind",
+    disk: Some(UNFOLDED),
+    disk_after: Some(UNFOLDED),
+    ..TEXT_FILE
+};
+
+const NODE_WORDS: &[&str] = &["node", "--ticks", "5", "--turns", "40"];
+
+/// The commands that open a key file, and what they tell of one that is no file of a key.
+const OF_A_TEXT: Words = &[
+    (&["endorse"], "fault NotJournal 0"),
+    (&["genesis"], "fault NotJournal 0"),
+    (SIGN_WORDS, "fault NotJournal 0"),
+    (&["recover"], "fault NotJournal 0"),
+    (NODE_WORDS, "fault NotJournal 0"),
+];
+
+const OF_A_BAD_RECORD: Words = &[
+    (&["endorse"], "fault BadRecord 57"),
+    (&["genesis"], "fault BadRecord 57"),
+    (SIGN_WORDS, "fault BadRecord 57"),
+    (&["recover"], "fault BadRecord 57"),
+    (NODE_WORDS, "fault BadRecord 57"),
 ];
 
 /// Each signature spends a leaf.
@@ -204,6 +256,11 @@ fn play_no_keys(rt: &impl Abort, table: &mut Table) -> Result<(), AllocError> {
     table.play_all(rt, NO_KEYS)
 }
 
+fn play_foreign_files(rt: &impl Abort, table: &mut Table) -> Result<(), AllocError> {
+    table.play_words(rt, &TEXT_FILE, OF_A_TEXT)?;
+    table.play_words(rt, &UNFOLDED_FILE, OF_A_BAD_RECORD)
+}
+
 fn play_leaves(rt: &impl Abort, table: &mut Table) -> Result<(), AllocError> {
     table.play_all(rt, LEAVES)
 }
@@ -216,6 +273,7 @@ fn play_no_requests(rt: &impl Abort, table: &mut Table) -> Result<(), AllocError
 pub fn play(rt: &impl Abort, table: &mut Table) -> Result<(), AllocError> {
     play_openings(rt, table)?;
     play_no_keys(rt, table)?;
+    play_foreign_files(rt, table)?;
     play_leaves(rt, table)?;
     play_no_requests(rt, table)
 }

@@ -59,6 +59,9 @@ fn is_failed_output(what: InTurn, call: u64, before: &[u8], left: &Left, whole: 
                 && left.written.is_empty()
                 && is_prefix_sent(&left.traffic, &whole.traffic)
         }
+        InTurn::ForeignDisk => {
+            left.status == 5 && left.written.is_empty() && left.disk.as_slice() == before
+        }
         InTurn::Nexts => {
             left.status == 6
                 && left.written.is_empty()

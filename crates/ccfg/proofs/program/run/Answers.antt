@@ -16,7 +16,7 @@ returns-in-Ok-Task-clause-command g c command asks =
     let found : asked (map string_bytes c.args.words.now) ≡ Ok (asks_for.Task c.in-Ok-Task.task) = search (rules, c.in-Ok-Task.ensures.found) in
     let h = c.execute.ensures in
     as_asked _ _ _ (asked (map string_bytes c.args.words.now)) (asks_for.Task c.in-Ok-Task.task) command found asks
-    (task_does _ _ c.in-Ok-Task.task h.disk h.accepted h.kept h.not_empty h.unread h.untouched h.signed h.spent h.any_moment h.unspent h.unread_key h.runs, refl)
+    (task_does _ _ c.in-Ok-Task.task h.disk h.accepted h.kept h.not_empty h.unread h.untouched h.signed h.spent h.any_moment h.unspent h.unread_key h.runs, h.quiet, refl)
 
 pub returns-in-Ok-Node-clause-words : goal.returns-in-Ok-Node-clause-words
 returns-in-Ok-Node-clause-words g c kinds is =
@@ -50,7 +50,7 @@ returns-in-Err-Refused-clause-command g c command asks =
     none_asked (asked (map string_bytes c.args.words.now)) c.in-Err-Refused.kind command (search (rules, c.in-Err-Refused.ensures.refused)) asks
 
 pub returns-clause-words : goal.returns-clause-words
-returns-clause-words g c kinds is = nothing_reports _ _ refl refl refl (search rules) (λ text. search rules) (map string_bytes c.args.words.now) kinds is
+returns-clause-words g c kinds is = nothing_reports _ _ refl refl refl refl (search rules) (λ text. search rules) (map string_bytes c.args.words.now) kinds is
 
 pub returns-clause-command : goal.returns-clause-command
-returns-clause-command g c command asks = nothing_does _ _ refl refl refl (search rules) (λ text. search rules) command
+returns-clause-command g c command asks = nothing_does _ _ refl refl refl refl (search rules) (λ text. search rules) command

@@ -1,4 +1,4 @@
-use Rattle.std.proofs.Common.{◌≤◌, ◌+◌, ◌-◌, vec_len}
+use Rattle.std.proofs.Common.{◌≡◌, ◌+◌, ◌-◌, vec_len}
 use Rattle.std.specs.Io.KnownBytes.{Consumes}
 use Rattle.ccfg.proofs.source_bytes.read_whole.Given as goal
 
@@ -6,7 +6,7 @@ use Rattle.ccfg.proofs.source_bytes.read_whole.Given as goal
 abbrev pub invariant-loop-buffer : goal.invariant-loop-buffer
 invariant-loop-buffer g l = record {
   taken : Consumes (g.S.Source.left l.fn.source) (g.S.Source.left l.source) l.text.items;
-  never_falls : g.S.Source.faults l.fn.source ≤ g.S.Source.faults l.source;
+  quiet : g.S.Source.faults l.source ≡ g.S.Source.faults l.fn.source;
 }
 
 abbrev pub decreases-loop-buffer : goal.decreases-loop-buffer

@@ -1,5 +1,5 @@
 -- The bytes of a refusal's values, as a client is answered them.
-use Rattle.std.specs.Prelude.{ℕ, List, [], Option, None, Some}
+use Rattle.std.specs.Prelude.{ℕ, List, [], None, Some}
 use Rattle.std.specs.List.{flat_map}
 use Rattle.gl_base.specs.Field.{with_u32_length}
 use Rattle.gl_base.specs.LittleEndian.{little_endian}

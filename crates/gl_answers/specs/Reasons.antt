@@ -1,6 +1,8 @@
 -- Why an event is refused, as whoever asked is told it: each refusal has a number, and values in
 -- order.
 use Rattle.std.specs.Prelude.{ℕ, List, [], ◌∷◌, Option, None, Some, map}
+use Rattle.gl_hss.specs.declared.fault.HssFault.{HssFault}
+use Rattle.gl_hss.specs.declared.fault.HssFault.TheVariants as signature
 use Rattle.gl_requests.specs.Encoding.{state_byte}
 use Rattle.gl_tx.specs.Abort.{number_of}
 use Rattle.gl_gov_rules.specs.Numbers.{cause_number}
@@ -8,6 +10,9 @@ use Rattle.gl_gov_rules.specs.Rows.{node_byte, proposal_byte}
 use Rattle.gl_gov_rules.specs.declared.refusal.GovernanceRefusal.{GovernanceRefusal}
 use Rattle.gl_gov_rules.specs.declared.refusal.GovernanceRefusal.TheVariants as governance
 use Rattle.gl_gov_rules.specs.declared.refusal.NodeStatus.{NodeStatus}
+use Rattle.gl_ledger.specs.declared.breach.EntryRefusal.{EntryRefusal}
+use Rattle.gl_ledger.specs.declared.breach.EntryRefusal.TheVariants as entry
+use Rattle.gl_ledger.specs.declared.refusal.Refusal as store
 use Rattle.gl_ledger.specs.declared.refusal.Refusal.TheVariants as ledger
 use Rattle.gl_ledger.specs.declared.response.Rejection.{Rejection}
 use Rattle.gl_ledger.specs.declared.response.Rejection.TheVariants.{ByStore, Unencodable, NoEntry, NoEvidenceYet, Founding, ByRule}
@@ -51,19 +56,43 @@ governance_reason (governance.WrongShare digest) = digests 100 (digest ∷ [])
 governance_reason (governance.KnownShare member) = numbers 101 (member ∷ [])
 governance_reason (governance.Secret want got) = digests 103 (want ∷ got ∷ [])
 
--- Why a ledger takes no entry.
-abbrev pub rejected_reason : Rejection → Reason
-rejected_reason (ByStore (ledger.ServiceState state)) = numbers 51 (state_byte state ∷ [])
-rejected_reason (ByStore (ledger.Aborted abort)) =
+-- Why no entry is made for a request.
+abbrev pub store_reason : store.Refusal → Reason
+store_reason (ledger.ServiceState state) = numbers 51 (state_byte state ∷ [])
+store_reason (ledger.Aborted abort) =
     numbers 122 (abort.operation ∷ number_of abort.cause ∷ [])
-rejected_reason (ByStore (ledger.TooLarge size)) = numbers 119 (size ∷ [])
-rejected_reason (ByStore ledger.SeqnoLimit) = numbers 130 []
-rejected_reason (ByStore (ledger.Governance why)) = governance_reason why
+store_reason (ledger.TooLarge size) = numbers 119 (size ∷ [])
+store_reason ledger.SeqnoLimit = numbers 130 []
+store_reason (ledger.Governance why) = governance_reason why
+
+-- What is wrong with a signature: a number of its own, and then its values. Of two the one that is
+-- wanted comes first.
+abbrev pub fault_values : HssFault → List Value
+fault_values (signature.Types at) = Number 20 ∷ Number at ∷ []
+fault_values (signature.Length want got) = Number 21 ∷ Number want ∷ Number got ∷ []
+fault_values (signature.Levels want got) = Number 22 ∷ Number want ∷ Number got ∷ []
+fault_values (signature.Root want got) = Number 23 ∷ Digest want ∷ Digest got ∷ []
+fault_values (signature.Leaf q) = Number 24 ∷ Number q ∷ []
+
+-- Why an entry is refused that breaks a rule of the audit. What is wrong with its request is told
+-- as it is to who sends such a request, and what is wrong with a signature after the seqno.
+abbrev pub entry_reason : EntryRefusal → Reason
+entry_reason (entry.ServiceState state) = store_reason (ledger.ServiceState state)
+entry_reason (entry.Aborted abort) = store_reason (ledger.Aborted abort)
+entry_reason (entry.Governance why) = store_reason (ledger.Governance why)
+entry_reason (entry.Replay seqno wanted found) =
+    record { code = 117; values = Number seqno ∷ Digest wanted ∷ Digest found ∷ [] }
+entry_reason (entry.BadSignature seqno fault) =
+    record { code = 118; values = Number seqno ∷ fault_values fault }
+
+-- Why a ledger takes no entry. Which rule an entry breaks isn't told.
+abbrev pub rejected_reason : Rejection → Reason
+rejected_reason (ByStore why) = store_reason why
 rejected_reason Unencodable = numbers 117 []
 rejected_reason NoEntry = numbers 117 []
 rejected_reason NoEvidenceYet = numbers 117 []
 rejected_reason Founding = numbers 117 []
-rejected_reason (ByRule broken) = numbers 117 []
+rejected_reason (ByRule broken) = entry_reason broken.refusal
 
 -- Why an event is refused by the rules of consensus.
 abbrev pub reason_of : rules.Refusal Rejection → Reason
@@ -91,7 +120,7 @@ values_of why = (reason_of why).values
 
 -- No refusal has more values.
 abbrev pub most_values : ℕ
-most_values = 2
+most_values = 4
 
 -- A node's refusal as the rules know it. Running out of memory is none.
 abbrev pub seen_refusal : {S Q G R A F : Type 0} → Refusal S Q G R A F → Option (rules.Refusal F)

@@ -1,20 +1,21 @@
 //! Why an event is refused.
 
 ghost use Rattle.std.specs.Prelude.{◌≡◌, ◌≤◌, length, option_map, IfOk, IfSome};
-ghost use Rattle.gl_ledger.specs.declared.response.Rejection.TheVariants.{ByStore};
-ghost use Rattle.gl_answers.specs.Reasons.{most_values, reason_of, rejected_reason, seen_refusal};
+ghost use Rattle.gl_ledger.specs.declared.breach.EntryRefusal.TheVariants.{BadSignature};
+ghost use Rattle.gl_answers.specs.Reasons.{entry_reason, most_values, reason_of, rejected_reason, seen_refusal, store_reason};
 ghost use Rattle.gl_rules.specs.Outcome.{NotPrimary};
 
 use crate::governance::governance_reason;
 use crate::value::{Reason, Value};
-use gl_base::Sequence;
-use gl_ledger::Rejection;
+use gl_hss::HssFault;
+use gl_ledger::{EntryRefusal, Rejection};
 use gl_replication::{Book, Refusal};
 use gl_requests::NodeId;
 use std::alloc::{AllocError, Global};
 
+/// Why no entry is made for a request.
 fn store_reason(alloc: Global, refusal: gl_ledger::Refusal) -> Result<Reason, AllocError>
-    ensures { IfOk result (λ reason. reason ≡ rejected_reason (ByStore refusal)) }
+    ensures { IfOk result (λ reason. reason ≡ store_reason refusal) }
 {
     match refusal {
         gl_ledger::Refusal::ServiceState(state) => {
@@ -31,6 +32,56 @@ fn store_reason(alloc: Global, refusal: gl_ledger::Refusal) -> Result<Reason, Al
     }
 }
 
+/// That the signature of the entry at this seqno isn't valid.
+fn signature_reason(alloc: Global, seqno: u64, fault: HssFault) -> Result<Reason, AllocError>
+    ensures { IfOk result (λ reason. reason ≡ entry_reason (BadSignature seqno fault)) }
+{
+    match fault {
+        HssFault::Types { at } => Reason::numbers(alloc, 118, &[seqno, 20, at]),
+        HssFault::Length { want, got } => Reason::numbers(alloc, 118, &[seqno, 21, want, got]),
+        HssFault::Levels { want, got } => {
+            Reason::numbers(alloc, 118, &[seqno, 22, u64::from(want), u64::from(got)])
+        }
+        HssFault::Root { want, got } => Reason::new(
+            alloc,
+            118,
+            &[
+                Value::Number(seqno),
+                Value::Number(23),
+                Value::Digest(want),
+                Value::Digest(got),
+            ],
+        ),
+        HssFault::Leaf { q } => Reason::numbers(alloc, 118, &[seqno, 24, u64::from(q)]),
+    }
+}
+
+/// Why an entry is refused that breaks a rule of the audit.
+fn entry_reason(alloc: Global, refusal: EntryRefusal) -> Result<Reason, AllocError>
+    ensures { IfOk result (λ reason. reason ≡ entry_reason refusal) }
+{
+    use gl_ledger::Refusal;
+    match refusal {
+        EntryRefusal::ServiceState(state) => store_reason(alloc, Refusal::ServiceState(state)),
+        EntryRefusal::Aborted(abort) => store_reason(alloc, Refusal::Aborted(abort)),
+        EntryRefusal::Governance(why) => store_reason(alloc, Refusal::Governance(why)),
+        EntryRefusal::Replay {
+            seqno,
+            wanted,
+            found,
+        } => Reason::new(
+            alloc,
+            117,
+            &[
+                Value::Number(seqno),
+                Value::Digest(wanted),
+                Value::Digest(found),
+            ],
+        ),
+        EntryRefusal::BadSignature { seqno, fault } => signature_reason(alloc, seqno, fault),
+    }
+}
+
 /// Why the ledger takes no entry.
 pub(crate) fn rejected_reason(alloc: Global, why: Rejection) -> Result<Reason, AllocError>
     ensures { IfOk result (λ reason. reason ≡ rejected_reason why) }
@@ -40,8 +91,8 @@ pub(crate) fn rejected_reason(alloc: Global, why: Rejection) -> Result<Reason, A
         Rejection::Unencodable
         | Rejection::NoEntry
         | Rejection::NoEvidenceYet
-        | Rejection::Founding
-        | Rejection::ByRule(_) => Reason::numbers(alloc, 117, &[]),
+        | Rejection::Founding => Reason::numbers(alloc, 117, &[]),
+        Rejection::ByRule(broken) => entry_reason(alloc, broken.refusal),
     }
 }
 
@@ -49,17 +100,14 @@ pub(crate) fn rejected_reason(alloc: Global, why: Rejection) -> Result<Reason, A
 pub fn not_primary(alloc: Global, view: u32, leader: Option<NodeId>) -> Result<Reason, AllocError>
     ensures { IfOk result (λ reason. reason ≡ reason_of (NotPrimary view leader)) }
 {
-    let values = Vec::from_slice(
+    Reason::new(
         alloc,
+        110,
         &[Value::Number(u64::from(view)), Value::Leader(leader)],
-    )?;
-    Ok(Reason {
-        code: 110,
-        values: Sequence::from(values),
-    })
+    )
 }
 
-/// The number of a refusal, and its values: 2 at most. Running out of memory has none, since it is
+/// The number of a refusal, and its values: 4 at most. Running out of memory has none, since it is
 /// no refusal of the rules.
 #[tactic(auto, using(crate::proofs::FewValues::few_values))]
 pub fn reason_of<B: Book<Refused = Rejection>>(

@@ -41,6 +41,14 @@ impl Reason {
     ghost use Rattle.std.specs.Prelude.{◌≡◌, IfOk};
     ghost use Rattle.gl_answers.specs.Reasons.{digests, numbers};
 
+    /// A reason with these values.
+    pub(crate) fn new(alloc: Global, code: u16, values: &[Value]) -> Result<Reason, AllocError>
+        ensures { IfOk result (λ reason. reason ≡ record { code = code; values = values.now }) }
+    {
+        let values = Sequence::from(Vec::from_slice(alloc, values)?);
+        Ok(Reason { code, values })
+    }
+
     /// A reason with these numbers.
     pub fn numbers(alloc: Global, code: u16, values: &[u64]) -> Result<Reason, AllocError>
         ensures { IfOk result (λ reason. reason ≡ numbers code values.now) }

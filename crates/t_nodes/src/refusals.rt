@@ -2,7 +2,8 @@
 
 use gl_answers::{Reason, Value, reason_of, values_bytes};
 use gl_gov_rules::{Cause, GovernanceRefusal, NodeStatus, ProposalState};
-use gl_ledger::{Refusal, Rejection};
+use gl_hss::HssFault;
+use gl_ledger::{Broken, EntryRefusal, Refusal, Rejection};
 use gl_replication::Refusal as NodeRefusal;
 use gl_requests::ServiceState;
 use gl_store_book::StoreBook;
@@ -144,6 +145,99 @@ const LEDGER: [(Rejection, u16, &[u64]); 6] = [
     (Rejection::NoEntry, 117, &[]),
 ];
 
+/// Why an entry breaks a rule: the number, and the values.
+const ENTRIES: [(EntryRefusal, u16, &[Value]); 9] = [
+    (
+        EntryRefusal::ServiceState(ServiceState::WaitingForRecoveryShares),
+        51,
+        &[Value::Number(3)],
+    ),
+    (
+        EntryRefusal::Aborted(Abort {
+            operation: 3,
+            cause: gl_tx::Cause::Overflow,
+        }),
+        122,
+        &[Value::Number(3), Value::Number(4)],
+    ),
+    (
+        EntryRefusal::Governance(GovernanceRefusal::TooMany { limit: 16 }),
+        50,
+        &[Value::Number(16)],
+    ),
+    (
+        EntryRefusal::Replay {
+            seqno: 7,
+            wanted: [1; 32],
+            found: [2; 32],
+        },
+        117,
+        &[
+            Value::Number(7),
+            Value::Digest([1; 32]),
+            Value::Digest([2; 32]),
+        ],
+    ),
+    (
+        EntryRefusal::BadSignature {
+            seqno: 7,
+            fault: HssFault::Types { at: 12 },
+        },
+        118,
+        &[Value::Number(7), Value::Number(20), Value::Number(12)],
+    ),
+    (
+        EntryRefusal::BadSignature {
+            seqno: 7,
+            fault: HssFault::Length { want: 8, got: 5 },
+        },
+        118,
+        &[
+            Value::Number(7),
+            Value::Number(21),
+            Value::Number(8),
+            Value::Number(5),
+        ],
+    ),
+    (
+        EntryRefusal::BadSignature {
+            seqno: 7,
+            fault: HssFault::Levels { want: 2, got: 1 },
+        },
+        118,
+        &[
+            Value::Number(7),
+            Value::Number(22),
+            Value::Number(2),
+            Value::Number(1),
+        ],
+    ),
+    (
+        EntryRefusal::BadSignature {
+            seqno: 7,
+            fault: HssFault::Root {
+                want: [3; 32],
+                got: [4; 32],
+            },
+        },
+        118,
+        &[
+            Value::Number(7),
+            Value::Number(23),
+            Value::Digest([3; 32]),
+            Value::Digest([4; 32]),
+        ],
+    ),
+    (
+        EntryRefusal::BadSignature {
+            seqno: 7,
+            fault: HssFault::Leaf { q: 1_024 },
+        },
+        118,
+        &[Value::Number(7), Value::Number(24), Value::Number(1_024)],
+    ),
+];
+
 /// Each refusal of governance that has digests: its number, and these.
 const DIGESTS: [(GovernanceRefusal, u16, &[[u8; 32]]); 3] = [
     (
@@ -228,6 +322,20 @@ fn reports_refusals_of_a_ledger(rt: HostRuntime) -> Result<(), Fail> {
     for (refusal, code, values) in &LEDGER {
         let reason = reported(rt.alloc(), NodeRefusal::ByLedger(*refusal))?;
         assert!(rt; reports(&reason, *code, values));
+    }
+    Ok(())
+}
+
+#[test]
+fn reports_entries_that_break_a_rule(rt: HostRuntime) -> Result<(), Fail> {
+    for (refusal, code, values) in &ENTRIES {
+        let why = Rejection::ByRule(Broken {
+            rule: 11,
+            refusal: *refusal,
+        });
+        let reason = reported(rt.alloc(), NodeRefusal::ByLedger(why))?;
+        assert_eq!(rt; reason.code, *code);
+        assert_eq!(rt; reason.values.as_slice(), *values);
     }
     Ok(())
 }

@@ -14,3 +14,4 @@ pub mod DiskLemmas
 pub mod FileNodes
 pub mod NodeEvents
 pub mod FileStarts
+pub mod KeyLifeLemmas

@@ -14,6 +14,7 @@ pub mod RecoverCommand
 pub mod NodeCommand
 pub mod LoadCommand
 pub mod Commands
+pub mod KeyLife
 pub mod FileNodes
 pub mod OpeningStores
 pub mod Disk

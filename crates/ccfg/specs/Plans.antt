@@ -2,7 +2,8 @@
 use Rattle.std.specs.Prelude.{◌≡◌, ◌≢◌, ◌⊎◌, ℕ, List, Ok}
 use Rattle.gl_base.specs.declared.or_no_memory.OrNoMemory.{OrNoMemory}
 use Rattle.gl_base.specs.declared.or_no_memory.OrNoMemory.TheVariants as stops
-use Rattle.gl_journal.specs.Durable.{Durable, OpensToOneOf, key_alone}
+use Rattle.gl_journal.specs.Durable.{Durable, OpensToOneOf, journal_header, key_alone}
+use Rattle.gl_journal.specs.Parts.{HasGate}
 use Rattle.gl_journal.specs.declared.fault.JournalFault.{JournalFault}
 use Rattle.gl_journal.specs.declared.fault.JournalFault.TheVariants as journals
 use Rattle.gl_journal.specs.declared.key.KeyKind.{KeyKind}
@@ -57,10 +58,11 @@ ShowsAccepted (tasks.Verify identity) given (Show id) =
 ShowsAccepted (tasks.Verify identity) given (Refuse fault) = Unit {0}
 
 -- A key of this kind, these types and this seed is kept: each image that a stop may leave of the
--- disk opens to it, and to nothing else.
+-- disk has its closed gate, and opens to it, and to nothing else.
 abbrev pub KeepsKey : KeyKind → Types → List Step → List ℕ → Type 0
 KeepsKey kind types past seed =
-    OpensOnlyTo past (key_alone (record { kind = kind; types = types; seed = seed }))
+    (image : List ℕ) → IsImage past image → HasGate journal_header image
+    × (opened image ≡ Ok (key_alone (record { kind = kind; types = types; seed = seed })))
 
 -- Where a key is begun, it is kept before it is shown, and nothing else is reported but a fault.
 abbrev pub ShowsKept : KeyKind → Types → List Step → List ℕ → Plan → Type 0

@@ -17,6 +17,7 @@ use Rattle.gl_store_book.specs.ViewVotes.{IsOfOpening, IsTooLarge}
 use Rattle.gl_store_book.specs.declared.node_file.fault.OpeningFault.{OpeningFault}
 use Rattle.gl_store_book.specs.declared.node_file.fault.OpeningFault.TheVariants as faults
 use Rattle.ccfg.specs.NodeCommand.{NeedsNoSource}
+use Rattle.ccfg.specs.SignCommand.{IsForeign}
 use Rattle.ccfg.specs.Nodes.{Beginning, HasLedger, OfOpened, begin_after, begin_with, beginning, beginning_of, has_ledger, opened_by}
 
 -- ---- values
@@ -119,6 +120,10 @@ has_one opens d is kind none = go (subst NeedsNoSource is none)
     go : (d.key.kind ≢ kinds.Node) ⊎ (has_ledger d.log ≡ true) → has_ledger d.log ≡ true
     go (inl other) = absurd (other kind)
     go (inr has) = has
+
+-- a file that opens is no foreign one
+pub not_foreign : {A : Type 0} (opens : Result Durable JournalFault) (d : Durable) → opens ≡ Ok d → IsForeign opens → A
+not_foreign opens d is none = absurd (let both : ◌≡◌ {A = Result Durable JournalFault} (Ok d) (Err none.0) = sym is ∙ none.1 in cc)
 
 -- some state with a key of a kind
 abbrev pub of_kind : KeyKind → Durable

@@ -14,6 +14,7 @@ use Rattle.gl_keyfile.specs.KeyFile.{opened}
 use Rattle.gl_keyfile.specs.SigningRequest.{kind_of, use_of}
 use Rattle.gl_keyfile.specs.declared.leaf.LeafUse.{LeafUse}
 use Rattle.gl_keyfile.specs.declared.leaf.LeafUse.TheVariants.{Start}
+use Rattle.gl_outside.specs.Disk.{IsImage, Leaves}
 use Rattle.gl_outside.specs.Sink.{AppendsPrefix}
 use Rattle.gl_outside.proofs.Moments.{started, stayed}
 use Rattle.gl_commands.specs.Words.{RefusesWords, asked}
@@ -31,14 +32,14 @@ use Rattle.ccfg.specs.ExpectedOutput.{Output, Shown, WritesOutput, key_kind, lea
 use Rattle.ccfg.specs.Faults.{fault_line}
 use Rattle.ccfg.specs.NodeCommand.{NodeDoes}
 use Rattle.ccfg.specs.Nodes.{KeepsNode}
-use Rattle.ccfg.specs.Plans.{IsUntouched, KeepsKey, MovesByLeaf, OpensAsBefore, SpendsLeaf}
+use Rattle.ccfg.specs.Plans.{IsUntouched, KeepsKey, MovesByLeaf, MovesToKey, OpensAsBefore, SpendsLeaf}
 use Rattle.ccfg.specs.Run.{LinkRun, Run}
-use Rattle.ccfg.specs.SignCommand.{HasNoKey, PrintsFaultPrefix, TakesLeaf}
+use Rattle.ccfg.specs.SignCommand.{HasNoKey, IsForeign, PrintsFaultPrefix, TakesLeaf}
 use Rattle.ccfg.specs.VerifyCommand.{PrintsAccepted}
 use Rattle.ccfg.specs.declared.ending.Ending.{Ending}
 use Rattle.ccfg.specs.declared.ending.Ending.TheVariants as endings
 use Rattle.ccfg.specs.declared.fault.Fault.TheVariants.{TooMuchJson, Words}
-use Rattle.ccfg.proofs.MomentLemmas.{nothing_done}
+use Rattle.ccfg.proofs.MomentLemmas.{no_key, nothing_done}
 use Rattle.ccfg.proofs.ShownLemmas.{both_any, from_shown}
 
 module _ {S D : Type 0} (r : Run S D) (e : Ending) where
@@ -55,8 +56,11 @@ module _ {S D : Type 0} (r : Run S D) (e : Ending) where
       (e ≡ endings.Done → IsTrue r.disk.honest → SpendsLeaf leaf held (r.disk.past r.disk.after)) →
       (IsTrue r.disk.honest → (e ≡ endings.Done) ⊎ (e ≡ endings.SinkFailed) ⊎ (e ≡ endings.Memory) → SpendsLeaf leaf held (r.disk.past r.disk.after) ⊎ PrintsFaultPrefix r.sink.held r.sink.holds) →
       (IsTrue r.disk.honest → HasGate journal_header held → MovesByLeaf leaf held (r.disk.past r.disk.before) (r.disk.past r.disk.after)) →
-      (IsTrue r.disk.honest → (e ≡ endings.NotValid) ⊎ (e ≡ endings.SourceFailed) ⊎ (e ≡ endings.PastLimit) ⊎ (e ≡ endings.NoReading) → OpensAsBefore held (r.disk.bytes r.disk.after)) → TakesLeaf leaf r e
-  takes leaf honest signed spent moved unspent = record { signed = λ done. signed done honest; spent = spent honest; unspent = unspent honest; any_moment = moved honest }
+      (IsTrue r.disk.honest → (e ≡ endings.NotValid) ⊎ (e ≡ endings.SourceFailed) ⊎ (e ≡ endings.PastLimit) ⊎ (e ≡ endings.NoReading) → OpensAsBefore held (r.disk.bytes r.disk.after)) →
+      (IsTrue r.disk.honest → IsForeign (opened held) → Leaves (IsImage (r.disk.past r.disk.before)) (r.disk.past r.disk.before) (r.disk.past r.disk.after)) →
+      (IsTrue r.disk.honest → IsForeign (opened held) → (e ≢ endings.DiskFailed) → r.disk.bytes r.disk.after ≡ held) → TakesLeaf leaf r e
+  takes leaf honest signed spent moved unspent foreign bytes =
+      record { signed = λ done. signed done honest; spent = spent honest; unspent = unspent honest; any_moment = moved honest; foreign = foreign honest; foreign_bytes = bytes honest }
 
   pub task_does : (task : Task) →
       (uses_disk task ≡ false → (r.disk.after ≡ r.disk.before) × (e ≢ endings.DiskFailed)) →
@@ -65,39 +69,45 @@ module _ {S D : Type 0} (r : Run S D) (e : Ending) where
       (IsTrue r.disk.honest → 0 < length held → (kind : KeyKind) (types : Types) → task ≡ tasks.Keygen kind types → IsUntouched r.disk.bytes r.disk.past r.disk.before r.disk.after) →
       (IsTrue r.disk.honest → 0 < length held → (kind : KeyKind) (types : Types) → task ≡ tasks.Keygen kind types → r.source.after ≡ r.source.before) →
       (IsTrue r.disk.honest → (e ≡ endings.NotValid) ⊎ (e ≡ endings.SourceFailed) ⊎ (e ≡ endings.NoReading) → (kind : KeyKind) (types : Types) → task ≡ tasks.Keygen kind types → IsUntouched r.disk.bytes r.disk.past r.disk.before r.disk.after) →
+      (IsTrue r.disk.honest → (kind : KeyKind) (types : Types) → task ≡ tasks.Keygen kind types → OfBytes r.source.given (MovesToKey kind types (r.disk.past r.disk.before) (r.disk.past r.disk.after))) →
       (e ≡ endings.Done → IsTrue r.disk.honest → (leaf : LeafUse) → leaf_use task ≡ Some leaf → SpendsLeaf leaf held (r.disk.past r.disk.after)) →
       (IsTrue r.disk.honest → (e ≡ endings.Done) ⊎ (e ≡ endings.SinkFailed) ⊎ (e ≡ endings.Memory) → (leaf : LeafUse) → leaf_use task ≡ Some leaf → SpendsLeaf leaf held (r.disk.past r.disk.after) ⊎ PrintsFaultPrefix r.sink.held r.sink.holds) →
       (IsTrue r.disk.honest → HasGate journal_header held → (leaf : LeafUse) → leaf_use task ≡ Some leaf → MovesByLeaf leaf held (r.disk.past r.disk.before) (r.disk.past r.disk.after)) →
       (IsTrue r.disk.honest → (e ≡ endings.NotValid) ⊎ (e ≡ endings.SourceFailed) ⊎ (e ≡ endings.PastLimit) ⊎ (e ≡ endings.NoReading) → (leaf : LeafUse) → leaf_use task ≡ Some leaf → OpensAsBefore held (r.disk.bytes r.disk.after)) →
+      (IsTrue r.disk.honest → (leaf : LeafUse) → leaf_use task ≡ Some leaf → IsForeign (opened held) → Leaves (IsImage (r.disk.past r.disk.before)) (r.disk.past r.disk.before) (r.disk.past r.disk.after)) →
+      (IsTrue r.disk.honest → (leaf : LeafUse) → leaf_use task ≡ Some leaf → IsForeign (opened held) → (e ≢ endings.DiskFailed) → r.disk.bytes r.disk.after ≡ held) →
       (IsTrue r.disk.honest → (kind : KeyKind) → key_kind task ≡ Some kind → HasNoKey kind (opened held) → r.source.after ≡ r.source.before) →
       ExitsByDisk r e (output_of task) → TaskDoes task r e
-  task_does tasks.Replay disk accepted kept full unread untouched signed spent moved unspent keyless runs =
+  task_does tasks.Replay disk accepted kept full unread untouched keyed signed spent moved unspent foreign bytes keyless runs =
       record { exact = plain output_of_schedule runs; disk = record { same = (disk refl).0; never = (disk refl).1 } }
-  task_does (tasks.Verify identity) disk accepted kept full unread untouched signed spent moved unspent keyless runs =
+  task_does (tasks.Verify identity) disk accepted kept full unread untouched keyed signed spent moved unspent foreign bytes keyless runs =
       record { exact = plain (output_of_receipt identity) runs; accepted = λ done. accepted done identity refl; disk = record { same = (disk refl).0; never = (disk refl).1 } }
-  task_does (tasks.Audit identity) disk accepted kept full unread untouched signed spent moved unspent keyless runs =
+  task_does (tasks.Audit identity) disk accepted kept full unread untouched keyed signed spent moved unspent foreign bytes keyless runs =
       record { exact = plain (λ given. output_of_audit (verdict identity given)) runs; disk = record { same = (disk refl).0; never = (disk refl).1 } }
-  task_does (tasks.Keygen kind types) disk accepted kept full unread untouched signed spent moved unspent keyless runs =
+  task_does (tasks.Keygen kind types) disk accepted kept full unread untouched keyed signed spent moved unspent foreign bytes keyless runs =
       record {
         exact = runs;
         kept = λ done honest. kept done honest kind types refl;
         not_empty = λ honest some. full honest some kind types refl;
         unread = λ honest some. unread honest some kind types refl;
         untouched = λ honest is. untouched honest is kind types refl;
+        any_moment = λ honest. keyed honest kind types refl;
       }
-  task_does (tasks.Deal threshold members) disk accepted kept full unread untouched signed spent moved unspent keyless runs =
+  task_does (tasks.Deal threshold members) disk accepted kept full unread untouched keyed signed spent moved unspent foreign bytes keyless runs =
       record { exact = plain (output_of_dealing threshold members) runs; disk = record { same = (disk refl).0; never = (disk refl).1 } }
-  task_does (tasks.Sign signing) disk accepted kept full unread untouched signed spent moved unspent keyless runs =
+  task_does (tasks.Sign signing) disk accepted kept full unread untouched keyed signed spent moved unspent foreign bytes keyless runs =
       let leaf = use_of signing in
       record {
         exact = runs;
-        leaf = λ honest. takes leaf honest (λ done yes. signed done yes leaf refl) (λ yes is. spent yes is leaf refl) (λ yes gate. moved yes gate leaf refl) (λ yes is. unspent yes is leaf refl);
+        leaf = λ honest. takes leaf honest (λ done yes. signed done yes leaf refl) (λ yes is. spent yes is leaf refl) (λ yes gate. moved yes gate leaf refl) (λ yes is. unspent yes is leaf refl)
+            (λ yes none. foreign yes leaf refl none) (λ yes none other. bytes yes leaf refl none other);
         unread = λ honest none. keyless honest (kind_of signing) refl none;
       }
-  task_does tasks.Recover disk accepted kept full unread untouched signed spent moved unspent keyless runs =
+  task_does tasks.Recover disk accepted kept full unread untouched keyed signed spent moved unspent foreign bytes keyless runs =
       record {
         exact = runs;
-        leaf = λ honest. takes Start honest (λ done yes. signed done yes Start refl) (λ yes is. spent yes is Start refl) (λ yes gate. moved yes gate Start refl) (λ yes is. unspent yes is Start refl);
+        leaf = λ honest. takes Start honest (λ done yes. signed done yes Start refl) (λ yes is. spent yes is Start refl) (λ yes gate. moved yes gate Start refl) (λ yes is. unspent yes is Start refl)
+            (λ yes none. foreign yes Start refl none) (λ yes none other. bytes yes Start refl none other);
         unread = λ honest none. keyless honest Node refl none;
       }
 
@@ -128,6 +138,11 @@ module _ {S D L : Type 0} (r : Run S D) (link : LinkRun L) (source : r.source.af
   untouched : IsUntouched r.disk.bytes r.disk.past r.disk.before r.disk.after
   untouched = record { bytes = ap r.disk.bytes disk; past = ap r.disk.past disk }
 
+  same_images : Leaves (IsImage (r.disk.past r.disk.before)) (r.disk.past r.disk.before) (r.disk.past r.disk.after)
+  same_images =
+      let before = r.disk.past r.disk.before in
+      stayed (IsImage before) before before (r.disk.past r.disk.after) (started (IsImage before) before (λ image left. left)) (ap r.disk.past disk)
+
   no_task : (task : Task) → TaskDoes task r endings.Memory
   no_task task =
       task_does r endings.Memory task
@@ -137,10 +152,13 @@ module _ {S D L : Type 0} (r : Run S D) (link : LinkRun L) (source : r.source.af
       (λ honest some kind types is. untouched)
       (λ honest some kind types is. source)
       (λ honest stop kind types is. absurd (not_stopped stop))
+      (λ honest kind types is. no_key r.source.given kind types (r.disk.past r.disk.before) (r.disk.past r.disk.after) (ap r.disk.past disk))
       (λ done honest leaf is. absurd (not_done done))
       (λ honest end leaf is. inr (TooMuchJson, prefix (fault_line TooMuchJson)))
       (λ honest gate leaf is. nothing_done leaf (r.disk.bytes r.disk.before) (r.disk.past r.disk.before) (r.disk.past r.disk.after) (ap r.disk.past disk))
       (λ honest stop leaf is. absurd (not_unsigned stop))
+      (λ honest leaf is none. same_images)
+      (λ honest leaf is none other. ap r.disk.bytes disk)
       (λ honest kind is none. source)
       (both_any r.disk.honest (r.disk.bytes r.disk.before) r.source.given (λ h g. Exits r endings.Memory (output_of task h g)) (λ h g. prefix (output_of task h g).text))
 
@@ -152,6 +170,8 @@ module _ {S D L : Type 0} (r : Run S D) (link : LinkRun L) (source : r.source.af
         any_moment = λ honest gate.
             let P = KeepsNode (r.disk.bytes r.disk.before) (r.disk.past r.disk.before) in
             stayed P (r.disk.past r.disk.before) (r.disk.past r.disk.before) (r.disk.past r.disk.after) (started P (r.disk.past r.disk.before) (λ image left. inl (inl left))) (ap r.disk.past disk);
+        foreign = λ honest none. same_images;
+        foreign_bytes = λ honest none other. ap r.disk.bytes disk;
         unread = λ honest none. source;
       }
   nothing_does (asks.Load load) = (record { exact = prefix _; source = source; disk = record { same = disk; never = λ is. cc } }, same)

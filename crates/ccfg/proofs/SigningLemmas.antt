@@ -28,7 +28,7 @@ use Rattle.ccfg.specs.declared.plan.PlanError.{PlanError}
 use Rattle.gl_commands.specs.declared.task.Task.{Task}
 use Rattle.gl_commands.specs.declared.task.Task.TheVariants.{Recover, Sign}
 use Rattle.ccfg.specs.Plans.{OpensAsBefore, PlansPlayable, PrintsFault, PrintsSpent, PrintsUnopened, output_of_plan}
-use Rattle.ccfg.specs.SignCommand.{HasNoKey}
+use Rattle.ccfg.specs.SignCommand.{HasNoKey, IsForeign}
 use Rattle.ccfg.proofs.ShownLemmas.{of_any, of_map, ok_map}
 use Rattle.ccfg.specs.ExpectedOutput.{EndsSource, OfShown, Output, Shown, is_kind, json_limit, output_of, output_of_fault, output_of_recovering, output_of_signed, output_of_signing, output_of_text, output_with_key}
 
@@ -68,6 +68,10 @@ pub key_found : {A : Type 0} (kind : KeyKind) (opens : Result Durable JournalFau
 key_found kind opens state is own none =
     let other : (state.key.kind ≡ kind → ⊥) = subst (HasNoKey kind) is none in
     absurd (other own)
+
+-- and is no foreign one
+pub key_opened : {A : Type 0} (opens : Result Durable JournalFault) (state : Durable) → opens ≡ Ok state → IsForeign opens → A
+key_opened opens state is none = absurd (let both : ◌≡◌ {A = Result Durable JournalFault} (Ok state) (Err none.0) = sym is ∙ none.1 in cc)
 
 -- what is owed with a key of another kind than that which is wanted
 pub with_other_key : (kind : KeyKind) (owes : Durable → List ℕ → Output) (state : Durable) (given : List ℕ) → (state.key.kind ≡ kind → ⊥) → output_with_key kind owes (Ok state) given ≡ output_of_fault (faults.KeyKind kind state.key.kind)

@@ -5,7 +5,7 @@ use Rattle.gl_hss.specs.declared.types.Types.{Types}
 use Rattle.gl_journal.specs.declared.key.KeyKind.{KeyKind}
 use Rattle.ccfg.specs.ExpectedOutput.{on_empty, output_of_seed}
 use Rattle.ccfg.specs.Exits.{ExitsByDisk}
-use Rattle.ccfg.specs.Plans.{IsUntouched, KeepsKey}
+use Rattle.ccfg.specs.Plans.{IsUntouched, KeepsKey, MovesToKey}
 use Rattle.ccfg.specs.Run.{IsUnread, Run}
 use Rattle.ccfg.specs.declared.ending.Ending.{Ending}
 use Rattle.ccfg.specs.declared.ending.Ending.TheVariants.{Done, NoReading, NotValid, SourceFailed}
@@ -25,3 +25,7 @@ pub record KeygenDoes {S D : Type 0} (kind : KeyKind) (types : Types) (r : Run S
   -- 1, 3 and 9: an honest disk stays as it was.
   pub untouched : IsTrue r.disk.honest → (e ≡ NotValid) ⊎ (e ≡ SourceFailed) ⊎ (e ≡ NoReading) →
       IsUntouched r.disk.bytes r.disk.past r.disk.before r.disk.after
+  -- Whatever the ending: at every moment a stop leaves of an honest disk what it might have left
+  -- before, no key file, or this key alone.
+  pub any_moment : IsTrue r.disk.honest → OfBytes r.source.given
+      (MovesToKey kind types (r.disk.past r.disk.before) (r.disk.past r.disk.after))

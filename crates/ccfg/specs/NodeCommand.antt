@@ -5,10 +5,13 @@ use Rattle.gl_journal.specs.Durable.{Durable, journal_header}
 use Rattle.gl_journal.specs.Parts.{HasGate}
 use Rattle.gl_journal.specs.declared.fault.JournalFault.{JournalFault}
 use Rattle.gl_journal.specs.declared.key.KeyKind.TheVariants.{Node}
+use Rattle.gl_outside.specs.Disk.{IsImage, Leaves}
 use Rattle.gl_store_book.specs.NodeFile.{opened}
 use Rattle.ccfg.specs.Nodes.{MovesNode, NodeRuns, has_ledger}
 use Rattle.ccfg.specs.Run.{IsUnread, LinkRun, Run}
+use Rattle.ccfg.specs.SignCommand.{IsForeign}
 use Rattle.ccfg.specs.declared.ending.Ending.{Ending}
+use Rattle.ccfg.specs.declared.ending.Ending.TheVariants.{DiskFailed}
 
 -- A file with which a node needs no source: none of a node, or one that has a ledger.
 abbrev pub NeedsNoSource : Result Durable JournalFault → Type 0
@@ -26,6 +29,13 @@ pub record NodeDoes {S D L : Type 0} (node : NodeTask) (r : Run S D) (link : Lin
   pub any_moment : IsTrue r.disk.honest → HasGate journal_header (r.disk.bytes r.disk.before) →
       MovesNode (r.disk.bytes r.disk.before) (r.disk.past r.disk.before)
       (r.disk.past r.disk.after)
+  -- A file that is no journal is left alone: at every moment a stop leaves what it might have left
+  -- before, and but where the disk failed it has the bytes that it had.
+  pub foreign : IsTrue r.disk.honest → IsForeign (opened (r.disk.bytes r.disk.before)) →
+      Leaves (IsImage (r.disk.past r.disk.before)) (r.disk.past r.disk.before)
+      (r.disk.past r.disk.after)
+  pub foreign_bytes : IsTrue r.disk.honest → IsForeign (opened (r.disk.bytes r.disk.before)) →
+      e ≢ DiskFailed → r.disk.bytes r.disk.after ≡ r.disk.bytes r.disk.before
   -- The source is left unread where it isn't needed.
   pub unread : IsTrue r.disk.honest → NeedsNoSource (opened (r.disk.bytes r.disk.before)) →
       IsUnread r.source

@@ -2,7 +2,7 @@
 use Rattle.std.specs.Prelude.{◌≡◌, ◌≢◌, ◌⊎◌, ℕ, List, Ok}
 use Rattle.gl_base.specs.declared.or_no_memory.OrNoMemory.{OrNoMemory}
 use Rattle.gl_base.specs.declared.or_no_memory.OrNoMemory.TheVariants as stops
-use Rattle.gl_journal.specs.Durable.{Durable, OpensToOneOf, journal_header, key_alone}
+use Rattle.gl_journal.specs.Durable.{Durable, OpensToKeyAlone, OpensToOneOf, journal_header, key_alone}
 use Rattle.gl_journal.specs.Parts.{HasGate}
 use Rattle.gl_journal.specs.declared.fault.JournalFault.{JournalFault}
 use Rattle.gl_journal.specs.declared.fault.JournalFault.TheVariants as journals
@@ -63,6 +63,13 @@ abbrev pub KeepsKey : KeyKind → Types → List Step → List ℕ → Type 0
 KeepsKey kind types past seed =
     (image : List ℕ) → IsImage past image → HasGate journal_header image
     × (opened image ≡ Ok (key_alone (record { kind = kind; types = types; seed = seed })))
+
+-- At every moment each image that a stop may leave is one that it might have left before, or opens
+-- to no key file, or to the key of this kind, these types and this seed alone.
+abbrev pub MovesToKey : KeyKind → Types → List Step → List Step → List ℕ → Type 0
+MovesToKey kind types before after seed =
+    Leaves (OpensToKeyAlone any_frame (record { kind = kind; types = types; seed = seed }) before)
+    before after
 
 -- Where a key is begun, it is kept before it is shown, and nothing else is reported but a fault.
 abbrev pub ShowsKept : KeyKind → Types → List Step → List ℕ → Plan → Type 0

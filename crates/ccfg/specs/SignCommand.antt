@@ -8,6 +8,7 @@ use Rattle.gl_keyfile.specs.KeyFile.{opened}
 use Rattle.gl_keyfile.specs.SigningRequest.{kind_of, use_of}
 use Rattle.gl_keyfile.specs.declared.leaf.LeafUse.{LeafUse}
 use Rattle.gl_keyfile.specs.declared.signature.Signing.{Signing}
+use Rattle.gl_outside.specs.Disk.{IsImage, Leaves}
 use Rattle.gl_outside.specs.Sink.{AppendsPrefix}
 use Rattle.ccfg.specs.ExpectedOutput.{output_of_signing}
 use Rattle.ccfg.specs.Exits.{ExitsByDisk}
@@ -15,12 +16,16 @@ use Rattle.ccfg.specs.Faults.{fault_line}
 use Rattle.ccfg.specs.Plans.{MovesByLeaf, OpensAsBefore, SpendsLeaf}
 use Rattle.ccfg.specs.Run.{IsUnread, Run}
 use Rattle.ccfg.specs.declared.ending.Ending.{Ending}
-use Rattle.ccfg.specs.declared.ending.Ending.TheVariants.{Done, Memory, NoReading, NotValid, PastLimit, SinkFailed, SourceFailed}
+use Rattle.ccfg.specs.declared.ending.Ending.TheVariants.{DiskFailed, Done, Memory, NoReading, NotValid, PastLimit, SinkFailed, SourceFailed}
 use Rattle.ccfg.specs.declared.fault.Fault.{Fault}
 
 -- A prefix of the line of a fault was written, or nothing.
 abbrev pub PrintsFaultPrefix : Option (List ℕ) → Option (List ℕ) → Type 0
 PrintsFaultPrefix held holds = (fault : Fault) × AppendsPrefix held holds (fault_line fault)
+
+-- What bytes open to that are no key file.
+abbrev pub IsForeign : Result Durable JournalFault → Type 0
+IsForeign opens = (fault : JournalFault) × (opens ≡ Err fault)
 
 -- A leaf of the key of an honest disk's file is taken for this use.
 pub record TakesLeaf {S D : Type 0} (leaf : LeafUse) (r : Run S D) (e : Ending) : Type 0 where
@@ -42,6 +47,13 @@ pub record TakesLeaf {S D : Type 0} (leaf : LeafUse) (r : Run S D) (e : Ending) 
   pub any_moment : HasGate journal_header (r.disk.bytes r.disk.before) →
       MovesByLeaf leaf (r.disk.bytes r.disk.before) (r.disk.past r.disk.before)
       (r.disk.past r.disk.after)
+  -- A file that is no key file is left alone: at every moment a stop leaves what it might have left
+  -- before, and but where the disk failed it has the bytes that it had.
+  pub foreign : IsForeign (opened (r.disk.bytes r.disk.before)) →
+      Leaves (IsImage (r.disk.past r.disk.before)) (r.disk.past r.disk.before)
+      (r.disk.past r.disk.after)
+  pub foreign_bytes : IsForeign (opened (r.disk.bytes r.disk.before)) → e ≢ DiskFailed →
+      r.disk.bytes r.disk.after ≡ r.disk.bytes r.disk.before
 
 -- There is no key file, or its key is of another kind.
 abbrev pub HasNoKey : KeyKind → Result Durable JournalFault → Type 0

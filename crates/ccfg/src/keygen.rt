@@ -2,9 +2,12 @@
 
 ghost use Rattle.std.specs.Prelude.{◌≡◌, ◌≢◌, ℕ, ◌<◌, ◌≤◌, [], Err, IfErr, IfOk, IsTrue, length};
 ghost use Rattle.gl_entry.specs.SourceBytes.{OfBytes};
+ghost use Rattle.gl_journal.specs.Durable.{OpensToKeyAlone};
+ghost use Rattle.gl_keyfile.specs.KeyFile.{any_frame};
+ghost use Rattle.gl_outside.specs.Disk.{Leaves};
 ghost use Rattle.gl_outside.specs.Fault.{Rose};
 ghost use Rattle.ccfg.specs.ExpectedOutput.{EndsSource, OfShown, key_line, on_empty, output_of_answer, output_of_seed, seed_len};
-ghost use Rattle.ccfg.specs.Plans.{IsUntouched, PlansPlayable, PrintsFault, ShowsKept, output_of_plan};
+ghost use Rattle.ccfg.specs.Plans.{IsUntouched, MovesToKey, PlansPlayable, PrintsFault, ShowsKept, output_of_plan};
 ghost use Rattle.ccfg.specs.declared.fault.Fault.TheVariants.{NotEmpty, Short};
 ghost use Rattle.ccfg.specs.declared.plan.Plan.TheVariants.{Refuse};
 ghost use Rattle.gl_base.specs.declared.or_no_memory.OrNoMemory.{OrNoMemory};
@@ -83,6 +86,8 @@ fn begin_file<D: Disk>(alloc: Global, key: Key, disk: D) -> (Result<Plan, PlanEr
     ensures kept { IsTrue D.honest → IfOk result.0 (λ plan.
         ShowsKept key.kind key.types (D.past result.1) key.seed plan) }
     ensures begun { IsTrue D.honest → IfOk result.0 (λ plan. PrintsFault plan → ⊥) }
+    ensures any_moment { IsTrue D.honest →
+        Leaves (OpensToKeyAlone any_frame key (D.past disk)) (D.past disk) (D.past result.1) }
 {
     let Ok(line) = key_line(alloc, &key) else {
         return (Err(PlanError::Memory), disk);
@@ -120,6 +125,8 @@ fn plan_on_empty<S: Source, D: Disk>(
         IfOk result.0 (λ plan. PrintsFault plan → IsUntouched D.bytes D.past disk result.1) }
     ensures stopped { IsTrue D.honest → result.0 ≡ Err PlanError.SourceFailed →
         IsUntouched D.bytes D.past disk result.1 }
+    ensures any_moment { IsTrue D.honest → OfBytes (S.left source.old)
+        (MovesToKey kind types (D.past disk) (D.past result.1)) }
 {
     match read_whole(alloc, SEED_LEN, source) {
         Ok(text) => match seed_in(&text) {
@@ -165,6 +172,8 @@ pub fn keygen_plan<S: Source, D: Disk>(
         IfOk result.0 (λ plan. PrintsFault plan → IsUntouched D.bytes D.past disk result.1) }
     ensures stopped { IsTrue D.honest → result.0 ≡ Err PlanError.SourceFailed →
         IsUntouched D.bytes D.past disk result.1 }
+    ensures any_moment { IsTrue D.honest → OfBytes (S.left source.old)
+        (MovesToKey kind types (D.past disk) (D.past result.1)) }
 {
     let mut disk = disk;
     match disk.len() {

@@ -4,7 +4,7 @@
 ghost use Rattle.std.specs.Prelude.{◌≡◌, ◌≢◌, ◌⊎◌, ◌++◌, ◌≤◌, ℕ, false, true, Err, IfOk, IsTrue, None, Ok, codes, decimal};
 ghost use Rattle.gl_base.specs.declared.or_no_memory.OrNoMemory.{OrNoMemory};
 ghost use Rattle.gl_entry.specs.SourceBytes.{OfBytes};
-ghost use Rattle.gl_outside.specs.Disk.{Leaves};
+ghost use Rattle.gl_outside.specs.Disk.{IsImage, Leaves};
 ghost use Rattle.gl_outside.specs.Fault.{Rose};
 ghost use Rattle.gl_journal.specs.Durable.{Durable, journal_header};
 ghost use Rattle.gl_journal.specs.Parts.{HasGate};
@@ -16,6 +16,7 @@ ghost use Rattle.ccfg.specs.ExpectedOutput.{WritesOutput, output_of_answer, outp
 ghost use Rattle.ccfg.specs.declared.fault.Fault.TheVariants as reported;
 ghost use Rattle.gl_serve.specs.OverLink.{KeepsLeaves};
 ghost use Rattle.ccfg.specs.NodeCommand.{NeedsNoSource};
+ghost use Rattle.ccfg.specs.SignCommand.{IsForeign};
 ghost use Rattle.ccfg.specs.Run.{disk_run, link_run, sink_run, source_run};
 ghost use Rattle.ccfg.specs.Nodes.{BeginsAs, BeginsBy, Beginning, HasLedger, MovesNode, NodeRuns, OfOpened, beginning, beginning_of, disk_after, has_ledger, reopened, served_line};
 
@@ -174,6 +175,11 @@ fn open<S: Source, D: Disk + Drop>(
     ensures ended { IfOk result (λ replica. OfOpened D.honest (D.bytes disk) (λ opens.
         HasLedger opens ⊎ (S.ended source.new ≡ true))) }
     ensures going { IfOk result (λ replica. replica.stopped ≡ None) }
+    ensures foreign { IsTrue D.honest → IsForeign (opened (D.bytes disk)) →
+        Leaves (IsImage (D.past disk)) (D.past disk) (D.past (disk_after result)) }
+    ensures foreign_bytes { IsTrue D.honest → IsForeign (opened (D.bytes disk)) →
+        (why : NodeError) (back : D) → result ≡ Err (why, back) → why ≢ NodeError.DiskFailed →
+        D.bytes back ≡ D.bytes disk }
     ensures unread { IsTrue D.honest → NeedsNoSource (opened (D.bytes disk)) →
         source.new ≡ source.old }
     ensures source_failed { (back : D) → result ≡ Err (NodeError.SourceFailed, back) →
@@ -298,6 +304,10 @@ pub fn run_node<S: Source, K: Sink, D: Disk + Drop, L: Link, O: Observer>(
       sink = sink_run K.holds K.faults sink.old sink.new;
       disk = disk_run D.honest D.bytes D.past D.faults disk result.1;
     }) (link_run L.honest L.past L.inward link.old link.new) result.0 }
+    ensures foreign { IsTrue D.honest → IsForeign (opened (D.bytes disk)) →
+        Leaves (IsImage (D.past disk)) (D.past disk) (D.past result.1) }
+    ensures foreign_bytes { IsTrue D.honest → IsForeign (opened (D.bytes disk)) →
+        result.0 ≢ Ending.DiskFailed → D.bytes result.1 ≡ D.bytes disk }
     ensures unread { IsTrue D.honest → NeedsNoSource (opened (D.bytes disk)) →
         source.new ≡ source.old }
     ensures any_moment { IsTrue D.honest → HasGate journal_header (D.bytes disk) →

@@ -1,6 +1,7 @@
 //! What there is to do with the bytes of a source.
 
 ghost use Rattle.std.specs.Prelude.{◌≡◌, ◌≢◌, ℕ, ◌<◌, ◌≤◌, Err, IfErr, IfOk, IsTrue, Some, false, length};
+ghost use Rattle.gl_outside.specs.Disk.{IsImage, Leaves};
 ghost use Rattle.gl_outside.specs.Fault.{Rose};
 ghost use Rattle.gl_entry.specs.SourceBytes.{OfBytes};
 ghost use Rattle.gl_journal.specs.Durable.{journal_header};
@@ -10,8 +11,8 @@ ghost use Rattle.gl_keyfile.specs.KeyFile.{opened};
 ghost use Rattle.gl_keyfile.specs.declared.leaf.LeafUse.{LeafUse};
 ghost use Rattle.gl_hss.specs.declared.types.Types.{Types};
 ghost use Rattle.ccfg.specs.ExpectedOutput.{EndsSource, OfShown, bytes_limit, ending_of_stop, key_kind, leaf_use, output_of, output_of_schedule, uses_disk};
-ghost use Rattle.ccfg.specs.Plans.{IsUntouched, MovesByLeaf, OpensAsBefore, PlansPlayable, PrintsFault, PrintsSpent, ShowsAccepted, ShowsKept, output_of_plan};
-ghost use Rattle.ccfg.specs.SignCommand.{HasNoKey};
+ghost use Rattle.ccfg.specs.Plans.{IsUntouched, MovesByLeaf, MovesToKey, OpensAsBefore, PlansPlayable, PrintsFault, PrintsSpent, ShowsAccepted, ShowsKept, output_of_plan};
+ghost use Rattle.ccfg.specs.SignCommand.{HasNoKey, IsForeign};
 ghost use Rattle.gl_commands.specs.declared.task.Task.TheVariants.{Keygen};
 
 use crate::deal::read_dealing_plan;
@@ -153,6 +154,9 @@ pub fn read_plan<S: Source, D: Disk>(
     ensures stopped { IsTrue D.honest → (kind : KeyKind) (types : Types) →
         task.now ≡ Keygen kind types → result.0 ≡ Err PlanError.SourceFailed →
         IsUntouched D.bytes D.past disk result.1 }
+    ensures moves_to_key { IsTrue D.honest → (kind : KeyKind) (types : Types) →
+        task.now ≡ Keygen kind types → OfBytes (S.left source.old)
+        (MovesToKey kind types (D.past disk) (D.past result.1)) }
 
     // Something that is to be signed with a leaf of the file's key.
     ensures unread_key { IsTrue D.honest → (kind : KeyKind) → key_kind task.now ≡ Some kind →
@@ -165,6 +169,12 @@ pub fn read_plan<S: Source, D: Disk>(
     ensures unspent_stopped { IsTrue D.honest → (leaf : LeafUse) →
         leaf_use task.now ≡ Some leaf → result.0 ≡ Err PlanError.SourceFailed →
         OpensAsBefore (D.bytes disk) (D.bytes result.1) }
+    ensures foreign { IsTrue D.honest → (leaf : LeafUse) → leaf_use task.now ≡ Some leaf →
+        IsForeign (opened (D.bytes disk)) →
+        Leaves (IsImage (D.past disk)) (D.past disk) (D.past result.1) }
+    ensures foreign_bytes { IsTrue D.honest → (leaf : LeafUse) → leaf_use task.now ≡ Some leaf →
+        IsForeign (opened (D.bytes disk)) → result.0 ≢ Err PlanError.DiskFailed →
+        D.bytes result.1 ≡ D.bytes disk }
     ensures any_moment { IsTrue D.honest → HasGate journal_header (D.bytes disk) →
         (leaf : LeafUse) → leaf_use task.now ≡ Some leaf →
         MovesByLeaf leaf (D.bytes disk) (D.past disk) (D.past result.1) }

@@ -9,6 +9,7 @@ ghost use Rattle.gl_journal.specs.declared.key.KeyKind.{KeyKind};
 ghost use Rattle.gl_keyfile.specs.KeyFile.{opened};
 ghost use Rattle.gl_keyfile.specs.declared.leaf.LeafUse.{LeafUse};
 ghost use Rattle.gl_hss.specs.declared.types.Types.{Types};
+ghost use Rattle.gl_outside.specs.Disk.{IsImage, Leaves};
 ghost use Rattle.ccfg.specs.declared.ending.Ending.{Ending as Endings};
 ghost use Rattle.ccfg.specs.declared.ending.Ending.TheVariants.{DiskFailed, Done, Memory, NoReading, NotValid, PastLimit, SinkFailed, SourceFailed};
 ghost use Rattle.gl_commands.specs.declared.task.Task.TheVariants.{Keygen, Verify};
@@ -18,9 +19,9 @@ ghost use Rattle.gl_entry.specs.SourceBytes.{OfBytes};
 ghost use Rattle.ccfg.specs.Commands.{Does, ReportsFault};
 ghost use Rattle.ccfg.specs.Exits.{ExitsByDisk};
 ghost use Rattle.ccfg.specs.ExpectedOutput.{exit_status, key_kind, leaf_use, output_of, uses_disk};
-ghost use Rattle.ccfg.specs.Plans.{IsUntouched, KeepsKey, MovesByLeaf, OpensAsBefore, SpendsLeaf};
+ghost use Rattle.ccfg.specs.Plans.{IsUntouched, KeepsKey, MovesByLeaf, MovesToKey, OpensAsBefore, SpendsLeaf};
 ghost use Rattle.ccfg.specs.Run.{disk_run, link_run, sink_run, source_run};
-ghost use Rattle.ccfg.specs.SignCommand.{HasNoKey, PrintsFaultPrefix};
+ghost use Rattle.ccfg.specs.SignCommand.{HasNoKey, IsForeign, PrintsFaultPrefix};
 ghost use Rattle.ccfg.specs.VerifyCommand.{PrintsAccepted};
 ghost use Rattle.gl_schedule.specs.Schedules.{reads};
 ghost use Rattle.gl_commands.specs.Words.{asked};
@@ -61,6 +62,9 @@ fn execute<S: Source, K: Sink, D: Disk>(
         → (result.0 ≡ NotValid) ⊎ (result.0 ≡ SourceFailed) ⊎ (result.0 ≡ NoReading)
         → (kind : KeyKind) (types : Types) → task.now ≡ Keygen kind types
         → IsUntouched D.bytes D.past disk result.1 }
+    ensures moves_to_key { IsTrue D.honest → (kind : KeyKind) (types : Types)
+        → task.now ≡ Keygen kind types → OfBytes (S.left source.old)
+        (MovesToKey kind types (D.past disk) (D.past result.1)) }
     ensures signed { result.0 ≡ Done → IsTrue D.honest → (leaf : LeafUse)
         → leaf_use task.now ≡ Some leaf → SpendsLeaf leaf (D.bytes disk) (D.past result.1) }
     ensures spent { IsTrue D.honest
@@ -73,6 +77,12 @@ fn execute<S: Source, K: Sink, D: Disk>(
     ensures unspent { IsTrue D.honest → (result.0 ≡ NotValid) ⊎ (result.0 ≡ SourceFailed)
         ⊎ (result.0 ≡ PastLimit) ⊎ (result.0 ≡ NoReading) → (leaf : LeafUse)
         → leaf_use task.now ≡ Some leaf → OpensAsBefore (D.bytes disk) (D.bytes result.1) }
+    ensures foreign { IsTrue D.honest → (leaf : LeafUse) → leaf_use task.now ≡ Some leaf
+        → IsForeign (opened (D.bytes disk))
+        → Leaves (IsImage (D.past disk)) (D.past disk) (D.past result.1) }
+    ensures foreign_bytes { IsTrue D.honest → (leaf : LeafUse) → leaf_use task.now ≡ Some leaf
+        → IsForeign (opened (D.bytes disk)) → result.0 ≢ DiskFailed
+        → D.bytes result.1 ≡ D.bytes disk }
     ensures unread_key { IsTrue D.honest → (kind : KeyKind) → key_kind task.now ≡ Some kind
         → HasNoKey kind (opened (D.bytes disk)) → source.new ≡ source.old }
     ensures quiet { result.0 ≢ SourceFailed → S.faults source.new ≡ S.faults source.old }

@@ -10,13 +10,13 @@ ghost use Rattle.gl_journal.specs.declared.key.KeyKind.TheVariants.{Node};
 ghost use Rattle.gl_keyfile.specs.KeyFile.{IsOpened, any_frame, disk_of, held, opened};
 ghost use Rattle.gl_keyfile.specs.Leaf.{after_leaf};
 ghost use Rattle.gl_keyfile.specs.declared.leaf.LeafUse.TheVariants.{Start};
-ghost use Rattle.gl_outside.specs.Disk.{Leaves};
+ghost use Rattle.gl_outside.specs.Disk.{IsImage, Leaves};
 ghost use Rattle.gl_outside.specs.Fault.{Rose};
 ghost use Rattle.gl_recovery.specs.RecoveryOutput.{is_of_outside, is_source_read};
 ghost use Rattle.gl_recovery.specs.declared.recovering_fault.RecoveringFault.TheVariants.{DiskFailed, SourceFailed};
 ghost use Rattle.ccfg.specs.ExpectedOutput.{EndsSource, OfShown, output_of_old, output_of_recovered, output_of_recovering};
 ghost use Rattle.ccfg.specs.Plans.{MovesByLeaf, OpensAsBefore, PlansPlayable, PrintsFault, PrintsSpent, output_of_plan};
-ghost use Rattle.ccfg.specs.SignCommand.{HasNoKey};
+ghost use Rattle.ccfg.specs.SignCommand.{HasNoKey, IsForeign};
 
 use crate::fault::Fault;
 use crate::plan::{Plan, PlanError};
@@ -99,6 +99,10 @@ pub fn recovering_plan<S: Source, D: Disk>(
         S.faults source.new ≡ S.faults source.old }
     ensures disk_failed { result.0 ≡ Err PlanError.DiskFailed →
         Rose (D.faults disk) (D.faults result.1) }
+    ensures foreign { IsTrue D.honest → IsForeign (opened (D.bytes disk)) →
+        Leaves (IsImage (D.past disk)) (D.past disk) (D.past result.1) }
+    ensures foreign_bytes { IsTrue D.honest → IsForeign (opened (D.bytes disk)) →
+        result.0 ≢ Err PlanError.DiskFailed → D.bytes result.1 ≡ D.bytes disk }
     ensures unread { IsTrue D.honest → HasNoKey Node (opened (D.bytes disk)) →
         source.new ≡ source.old }
     ensures spent { IsTrue D.honest → IfOk result.0 (λ plan.

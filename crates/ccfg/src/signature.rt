@@ -11,12 +11,12 @@ ghost use Rattle.gl_keyfile.specs.Leaf.{after_leaf};
 ghost use Rattle.gl_keyfile.specs.SigningRequest.{kind_of, use_of};
 ghost use Rattle.gl_journal.specs.Durable.{OpensToOneOf, journal_header};
 ghost use Rattle.gl_journal.specs.Parts.{HasGate};
-ghost use Rattle.gl_outside.specs.Disk.{Leaves};
+ghost use Rattle.gl_outside.specs.Disk.{IsImage, Leaves};
 ghost use Rattle.gl_keyfile.specs.declared.fault.KeyFileFault.{KeyFileFault};
 ghost use Rattle.gl_outside.specs.Fault.{Rose};
 ghost use Rattle.ccfg.specs.ExpectedOutput.{EndsSource, OfShown, json_limit, output_of_signed, output_of_signing, output_of_text};
 ghost use Rattle.ccfg.specs.Plans.{MovesByLeaf, OpensAsBefore, PlansPlayable, PrintsFault, PrintsSpent, PrintsUnopened, output_of_plan};
-ghost use Rattle.ccfg.specs.SignCommand.{HasNoKey};
+ghost use Rattle.ccfg.specs.SignCommand.{HasNoKey, IsForeign};
 
 use crate::fault::Fault;
 use crate::plan::{Plan, PlanError};
@@ -34,6 +34,8 @@ pub(crate) fn open_stop(error: OrNoMemory<KeyFileFault>) -> Result<Plan, PlanErr
     ensures reported { IfOk result (PrintsUnopened error) }
     ensures disk_failed { result ≡ Err PlanError.DiskFailed →
         error ≡ OrNoMemory.Fault (KeyFileFault.Journal JournalFault.DiskFault) }
+    ensures disk { error ≡ OrNoMemory.Fault (KeyFileFault.Journal JournalFault.DiskFault) →
+        result ≡ Err PlanError.DiskFailed }
     ensures no_source { result ≢ Err PlanError.SourceFailed }
 {
     match error {
@@ -151,6 +153,10 @@ pub fn signing_plan<S: Source, D: Disk>(
         S.faults source.new ≡ S.faults source.old }
     ensures disk_failed { result.0 ≡ Err PlanError.DiskFailed →
         Rose (D.faults disk) (D.faults result.1) }
+    ensures foreign { IsTrue D.honest → IsForeign (opened (D.bytes disk)) →
+        Leaves (IsImage (D.past disk)) (D.past disk) (D.past result.1) }
+    ensures foreign_bytes { IsTrue D.honest → IsForeign (opened (D.bytes disk)) →
+        result.0 ≢ Err PlanError.DiskFailed → D.bytes result.1 ≡ D.bytes disk }
     ensures unread { IsTrue D.honest → HasNoKey (kind_of signing.now) (opened (D.bytes disk)) →
         source.new ≡ source.old }
     ensures spent { IsTrue D.honest → IfOk result.0 (λ plan.

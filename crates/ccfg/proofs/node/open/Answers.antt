@@ -10,7 +10,7 @@ use Rattle.gl_store_book.specs.NodeFile.{opened}
 use Rattle.gl_store_book.specs.declared.node_file.fault.OpeningFault.TheVariants as faults
 use Rattle.ccfg.specs.Nodes.{beginning_of}
 use Rattle.ccfg.specs.declared.node.NodeError.TheVariants as NodeError
-use Rattle.ccfg.proofs.Beginnings.{of_honest, begins_of, by_bytes, by_opened, any_bytes, has_one, ledger_or_end, ok_map, of_kind, other_kind}
+use Rattle.ccfg.proofs.Beginnings.{of_honest, begins_of, by_bytes, by_opened, any_bytes, has_one, ledger_or_end, not_foreign, ok_map, of_kind, other_kind}
 use Rattle.ccfg.proofs.NodeMoments.{later_moments, opened_moments}
 use Rattle.ccfg.proofs.node.open.Goals as goal
 
@@ -70,3 +70,18 @@ returns-in-Err-clause-any_moment g c honest gate =
 pub returns-in-Ok-clause-unread : goal.returns-in-Ok-clause-unread
 returns-in-Ok-clause-unread g c honest none =
     c.begin.ensures.unread (has_one (opened (g.D.Disk.bytes c.args.disk)) c.in-Ok.file.state (c.in-Ok.ensures.durable honest) c.in-Ok.ensures.kind none)
+
+pub returns-in-Ok-clause-foreign : goal.returns-in-Ok-clause-foreign
+returns-in-Ok-clause-foreign g c honest none = not_foreign (opened (g.D.Disk.bytes c.args.disk)) c.in-Ok.file.state (c.in-Ok.ensures.durable honest) none
+
+pub returns-in-Ok-clause-foreign_bytes : goal.returns-in-Ok-clause-foreign_bytes
+returns-in-Ok-clause-foreign_bytes g c honest none why back is other = not_foreign (opened (g.D.Disk.bytes c.args.disk)) c.in-Ok.file.state (c.in-Ok.ensures.durable honest) none
+
+pub returns-in-Err-clause-foreign : goal.returns-in-Err-clause-foreign
+returns-in-Err-clause-foreign g c honest none = c.in-Err.ensures.unopened honest none.0 none.1
+
+pub returns-in-Err-clause-foreign_bytes : goal.returns-in-Err-clause-foreign_bytes
+returns-in-Err-clause-foreign_bytes g c honest none why back is other =
+    let why_is : c.stop_of.result ≡ why = search (rules, is) in
+    let back_is : c.in-Err.disk ≡ back = search (rules, is) in
+    ap g.D.Disk.bytes (sym back_is) ∙ c.in-Err.ensures.unopened_bytes honest none.0 none.1 c.in-Err.error c.in-Err.disk refl (λ failed. other (sym why_is ∙ c.stop_of.ensures.disk failed))

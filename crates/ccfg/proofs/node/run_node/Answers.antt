@@ -1,4 +1,6 @@
 use Rattle.std.proofs.Common.{refl, rules, ap}
+use Rattle.gl_store_book.specs.NodeFile.{opened}
+use Rattle.ccfg.proofs.Beginnings.{not_foreign}
 use Rattle.ccfg.proofs.NodeMoments.{later_moments}
 use Rattle.ccfg.proofs.NodeRuns.{keeps_same, serves_so, stops_so}
 use Rattle.ccfg.proofs.node.run_node.Goals as goal
@@ -39,3 +41,17 @@ returns-in-Ok-clause-any_moment g c honest gate =
     let keeps = spent.2 in
     later_moments (g.D.Disk.bytes c.args.disk) _ _ _ spent.0 keeps.0 spent.1 keeps.2 keeps.3
     (c.in-Ok.ensures.any_moment honest gate) (c.serve_replica-end.ensures.any_moment honest keeps.0 keeps.1)
+
+pub returns-in-Ok-clause-foreign : goal.returns-in-Ok-clause-foreign
+returns-in-Ok-clause-foreign g c honest none =
+    let spent = c.in-Ok.ensures.spent honest in
+    not_foreign (opened (g.D.Disk.bytes c.args.disk)) spent.0 spent.1 none
+
+pub returns-in-Ok-clause-foreign_bytes : goal.returns-in-Ok-clause-foreign_bytes
+returns-in-Ok-clause-foreign_bytes g c honest none other =
+    let spent = c.in-Ok.ensures.spent honest in
+    not_foreign (opened (g.D.Disk.bytes c.args.disk)) spent.0 spent.1 none
+
+pub returns-in-Err-clause-foreign_bytes : goal.returns-in-Err-clause-foreign_bytes
+returns-in-Err-clause-foreign_bytes g c honest none other =
+    c.in-Err.ensures.foreign_bytes honest none c.in-Err.stop c.in-Err.disk refl (λ is. other (c.print_stop.ensures.disk_failed is).0)

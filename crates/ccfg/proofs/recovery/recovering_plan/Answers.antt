@@ -1,11 +1,11 @@
-use Rattle.std.proofs.Common.{Err, ap}
+use Rattle.std.proofs.Common.{Err, refl, ap}
 use Rattle.gl_journal.specs.declared.key.KeyKind.TheVariants.{Node}
 use Rattle.gl_keyfile.specs.KeyFile.{disk_of, held, opened}
 use Rattle.gl_keyfile.specs.declared.leaf.LeafUse.TheVariants.{Start}
 use Rattle.ccfg.specs.ExpectedOutput.{output_of_old}
 use Rattle.ccfg.proofs.ShownLemmas.{beside}
 use Rattle.ccfg.proofs.MomentLemmas.{opened_and_signed, opened_only}
-use Rattle.ccfg.proofs.SigningLemmas.{all_moved_spent, all_unopened_output, expected_with_key, key_found}
+use Rattle.ccfg.proofs.SigningLemmas.{all_moved_spent, all_unopened_output, expected_with_key, key_found, key_opened}
 use Rattle.ccfg.proofs.recovery.recovering_plan.Goals as goal
 
 pub returns-in-Ok-clause-output : goal.returns-in-Ok-clause-output
@@ -39,3 +39,16 @@ returns-in-Err-clause-any_moment g c = λ honest gate.
 pub returns-in-Ok-clause-unread : goal.returns-in-Ok-clause-unread
 returns-in-Ok-clause-unread g c honest none =
     key_found Node (opened (g.D.Disk.bytes c.args.disk)) (held c.in-Ok.file) (c.in-Ok.ensures.durable honest) c.in-Ok.ensures.kind none
+
+pub returns-in-Ok-clause-foreign : goal.returns-in-Ok-clause-foreign
+returns-in-Ok-clause-foreign g c honest none = key_opened (opened (g.D.Disk.bytes c.args.disk)) (held c.in-Ok.file) (c.in-Ok.ensures.durable honest) none
+
+pub returns-in-Ok-clause-foreign_bytes : goal.returns-in-Ok-clause-foreign_bytes
+returns-in-Ok-clause-foreign_bytes g c honest none other = key_opened (opened (g.D.Disk.bytes c.args.disk)) (held c.in-Ok.file) (c.in-Ok.ensures.durable honest) none
+
+pub returns-in-Err-clause-foreign : goal.returns-in-Err-clause-foreign
+returns-in-Err-clause-foreign g c honest none = c.in-Err.ensures.unopened honest none.0 none.1
+
+pub returns-in-Err-clause-foreign_bytes : goal.returns-in-Err-clause-foreign_bytes
+returns-in-Err-clause-foreign_bytes g c honest none other =
+    c.in-Err.ensures.unopened_bytes honest none.0 none.1 c.in-Err.error c.in-Err.disk refl (λ is. other (c.open_stop.ensures.disk is))

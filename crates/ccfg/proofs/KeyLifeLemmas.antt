@@ -10,7 +10,7 @@ use Rattle.gl_journal.specs.declared.journal.Journal.{Journal}
 use Rattle.gl_journal.specs.declared.key.Key.{Key}
 use Rattle.gl_journal.specs.declared.key.KeyKind.{KeyKind}
 use Rattle.gl_journal.proofs.Appending.{has_gate}
-use Rattle.gl_keyfile.specs.KeyFile.{opened}
+use Rattle.gl_store_book.specs.NodeFile.{opened}
 use Rattle.gl_keyfile.specs.Leaf.{after_leaf}
 use Rattle.gl_keyfile.specs.declared.leaf.LeafUse.{LeafUse}
 use Rattle.gl_keyfile.specs.declared.leaf.LeafUse.TheVariants.{Signature, Start}

@@ -13,7 +13,7 @@ use Rattle.gl_journal.specs.declared.fault.JournalFault.{JournalFault}
 use Rattle.gl_journal.specs.declared.fault.JournalFault.TheVariants.{DiskFault}
 use Rattle.gl_journal.specs.declared.key.KeyKind.{KeyKind}
 use Rattle.gl_journal.specs.declared.key.KeyKind.TheVariants.{Service, Node, Member}
-use Rattle.gl_keyfile.specs.KeyFile.{opened}
+use Rattle.gl_store_book.specs.NodeFile.{opened}
 use Rattle.gl_keyfile.specs.SigningRequest.{kind_of}
 use Rattle.gl_keyfile.specs.declared.fault.KeyFileFault.{KeyFileFault}
 use Rattle.gl_keyfile.specs.declared.fault.KeyFileFault.TheVariants.{Journal, KeyKind as KeyKindOf}

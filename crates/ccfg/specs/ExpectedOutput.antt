@@ -19,7 +19,7 @@ use Rattle.gl_journal.specs.declared.key.Key.{Key}
 use Rattle.gl_journal.specs.declared.key.KeyKind.{KeyKind}
 use Rattle.gl_journal.specs.declared.key.KeyKind.TheVariants.{Node}
 use Rattle.gl_keyfile.specs.Form.{key_form_of}
-use Rattle.gl_keyfile.specs.KeyFile.{opened}
+use Rattle.gl_store_book.specs.NodeFile.{opened}
 use Rattle.gl_keyfile.specs.SigningRequest.{kind_of, use_of}
 use Rattle.gl_keyfile.specs.declared.leaf.LeafUse.{LeafUse}
 use Rattle.gl_keyfile.specs.declared.leaf.LeafUse.TheVariants.{Start}

@@ -4,7 +4,7 @@ use Rattle.std.specs.Prelude.{◌≡◌, ◌≤◌, ◌+◌, ℕ, List, Ok, IsTr
 use Rattle.gl_journal.specs.Durable.{Durable, journal_header}
 use Rattle.gl_journal.specs.Parts.{HasGate}
 use Rattle.gl_journal.specs.declared.key.Key.{Key}
-use Rattle.gl_keyfile.specs.KeyFile.{opened}
+use Rattle.gl_store_book.specs.NodeFile.{opened}
 use Rattle.gl_outside.specs.Disk.{IsImage, Step}
 use Rattle.ccfg.specs.Run.{DiskRun}
 

@@ -2,6 +2,7 @@ pub mod Faults
 pub mod ExpectedOutput
 pub mod Run
 pub mod Exits
+pub mod KeyFiles
 pub mod Plans
 pub mod Nodes
 pub mod ReplayCommand

@@ -7,7 +7,8 @@ use Rattle.gl_journal.specs.Parts.{HasGate}
 use Rattle.gl_journal.specs.declared.fault.JournalFault.{JournalFault}
 use Rattle.gl_journal.specs.declared.fault.JournalFault.TheVariants as journals
 use Rattle.gl_journal.specs.declared.key.KeyKind.{KeyKind}
-use Rattle.gl_keyfile.specs.KeyFile.{OpensOnlyTo, any_frame, opened}
+use Rattle.gl_store_book.specs.NodeFile.{OpensOnlyTo, opened}
+use Rattle.gl_store_book.specs.Frames.{goes_on_ledger}
 use Rattle.gl_keyfile.specs.Leaf.{after_leaf}
 use Rattle.gl_keyfile.specs.declared.leaf.LeafUse.{LeafUse}
 use Rattle.gl_keyfile.specs.declared.fault.KeyFileFault.{KeyFileFault}
@@ -68,7 +69,7 @@ KeepsKey kind types past seed =
 -- to no key file, or to the key of this kind, these types and this seed alone.
 abbrev pub MovesToKey : KeyKind → Types → List Step → List Step → List ℕ → Type 0
 MovesToKey kind types before after seed =
-    Leaves (OpensToKeyAlone any_frame (record { kind = kind; types = types; seed = seed }) before)
+    Leaves (OpensToKeyAlone goes_on_ledger (record { kind = kind; types = types; seed = seed }) before)
     before after
 
 -- Where a key is begun, it is kept before it is shown, and nothing else is reported but a fault.
@@ -108,7 +109,7 @@ PrintsSpent leaf held past (Refuse fault) = Unit {0}
 -- state before a leaf is spent for this use, or to that after it.
 abbrev pub MayBeLeft : LeafUse → Durable → List Step → List ℕ → Type 0
 MayBeLeft leaf state before image =
-    IsImage before image ⊎ OpensToOneOf any_frame state (after_leaf leaf state) image
+    IsImage before image ⊎ OpensToOneOf goes_on_ledger state (after_leaf leaf state) image
 
 -- Where the bytes open to a state, each image that a stop may leave at a moment is such a one.
 abbrev pub MovesByLeaf : LeafUse → List ℕ → List Step → List Step → Type 0

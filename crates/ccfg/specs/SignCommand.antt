@@ -4,7 +4,7 @@ use Rattle.gl_journal.specs.Durable.{Durable, journal_header}
 use Rattle.gl_journal.specs.Parts.{HasGate}
 use Rattle.gl_journal.specs.declared.fault.JournalFault.{JournalFault}
 use Rattle.gl_journal.specs.declared.key.KeyKind.{KeyKind}
-use Rattle.gl_keyfile.specs.KeyFile.{opened}
+use Rattle.gl_store_book.specs.NodeFile.{opened}
 use Rattle.gl_keyfile.specs.SigningRequest.{kind_of, use_of}
 use Rattle.gl_keyfile.specs.declared.leaf.LeafUse.{LeafUse}
 use Rattle.gl_keyfile.specs.declared.signature.Signing.{Signing}

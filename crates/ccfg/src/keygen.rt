@@ -3,7 +3,7 @@
 ghost use Rattle.std.specs.Prelude.{◌≡◌, ◌≢◌, ℕ, ◌<◌, ◌≤◌, [], Err, IfErr, IfOk, IsTrue, length};
 ghost use Rattle.gl_entry.specs.SourceBytes.{OfBytes};
 ghost use Rattle.gl_journal.specs.Durable.{OpensToKeyAlone};
-ghost use Rattle.gl_keyfile.specs.KeyFile.{any_frame};
+ghost use Rattle.gl_store_book.specs.Frames.{goes_on_ledger};
 ghost use Rattle.gl_outside.specs.Disk.{Leaves};
 ghost use Rattle.gl_outside.specs.Fault.{Rose};
 ghost use Rattle.ccfg.specs.ExpectedOutput.{EndsSource, OfShown, key_line, on_empty, output_of_answer, output_of_seed, seed_len};
@@ -23,6 +23,7 @@ use gl_hss::Types;
 use gl_journal::{JournalFault, Key, KeyKind};
 use gl_keyfile::{KeyFile, KeyFileFault, key_form};
 use gl_outside::{Disk, Source};
+use gl_store_book::LedgerLog;
 use std::alloc::{AllocError, Global};
 
 /// How many bytes the seed of a key has.
@@ -87,12 +88,12 @@ fn begin_file<D: Disk>(alloc: Global, key: Key, disk: D) -> (Result<Plan, PlanEr
         ShowsKept key.kind key.types (D.past result.1) key.seed plan) }
     ensures begun { IsTrue D.honest → IfOk result.0 (λ plan. PrintsFault plan → ⊥) }
     ensures any_moment { IsTrue D.honest →
-        Leaves (OpensToKeyAlone any_frame key (D.past disk)) (D.past disk) (D.past result.1) }
+        Leaves (OpensToKeyAlone goes_on_ledger key (D.past disk)) (D.past disk) (D.past result.1) }
 {
     let Ok(line) = key_line(alloc, &key) else {
         return (Err(PlanError::Memory), disk);
     };
-    match KeyFile::create(alloc, disk, key) {
+    match KeyFile::<D, LedgerLog>::create(alloc, disk, key) {
         Ok(file) => (Ok(Plan::Print(line)), file.into_disk()),
         Err((error, disk)) => (begin_stop(error), disk),
     }

@@ -7,7 +7,7 @@ ghost use Rattle.gl_entry.specs.SourceBytes.{OfBytes};
 ghost use Rattle.gl_journal.specs.Durable.{journal_header};
 ghost use Rattle.gl_journal.specs.Parts.{HasGate};
 ghost use Rattle.gl_journal.specs.declared.key.KeyKind.{KeyKind};
-ghost use Rattle.gl_keyfile.specs.KeyFile.{opened};
+ghost use Rattle.gl_store_book.specs.NodeFile.{opened};
 ghost use Rattle.gl_keyfile.specs.declared.leaf.LeafUse.{LeafUse};
 ghost use Rattle.gl_hss.specs.declared.types.Types.{Types};
 ghost use Rattle.ccfg.specs.ExpectedOutput.{EndsSource, OfShown, bytes_limit, ending_of_stop, key_kind, leaf_use, output_of, output_of_schedule, uses_disk};

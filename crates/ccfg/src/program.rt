@@ -6,7 +6,7 @@ ghost use Rattle.clap.specs.Kinds.{Kinds};
 ghost use Rattle.gl_journal.specs.Durable.{journal_header};
 ghost use Rattle.gl_journal.specs.Parts.{HasGate};
 ghost use Rattle.gl_journal.specs.declared.key.KeyKind.{KeyKind};
-ghost use Rattle.gl_keyfile.specs.KeyFile.{opened};
+ghost use Rattle.gl_store_book.specs.NodeFile.{opened};
 ghost use Rattle.gl_keyfile.specs.declared.leaf.LeafUse.{LeafUse};
 ghost use Rattle.gl_hss.specs.declared.types.Types.{Types};
 ghost use Rattle.gl_outside.specs.Disk.{IsImage, Leaves};

@@ -7,7 +7,10 @@ ghost use Rattle.gl_entry.specs.SourceBytes.{OfBytes};
 ghost use Rattle.gl_journal.specs.Durable.{OpensToOneOf, journal_header};
 ghost use Rattle.gl_journal.specs.Parts.{HasGate};
 ghost use Rattle.gl_journal.specs.declared.key.KeyKind.TheVariants.{Node};
-ghost use Rattle.gl_keyfile.specs.KeyFile.{IsOpened, any_frame, disk_of, held, opened};
+ghost use Rattle.gl_keyfile.specs.KeyFile.{disk_of};
+ghost use Rattle.ccfg.specs.KeyFiles.{IsOpened, held};
+ghost use Rattle.gl_store_book.specs.NodeFile.{opened};
+ghost use Rattle.gl_store_book.specs.Frames.{goes_on_ledger};
 ghost use Rattle.gl_keyfile.specs.Leaf.{after_leaf};
 ghost use Rattle.gl_keyfile.specs.declared.leaf.LeafUse.TheVariants.{Start};
 ghost use Rattle.gl_outside.specs.Disk.{IsImage, Leaves};
@@ -26,6 +29,7 @@ use gl_journal::KeyKind;
 use gl_keyfile::KeyFile;
 use gl_outside::{Disk, Source};
 use gl_recovery::{RecoveringFault, recover};
+use gl_store_book::LedgerLog;
 use std::alloc::Global;
 
 /// What there is to do where no service is recovered.
@@ -49,7 +53,7 @@ fn unfounded_plan(fault: RecoveringFault) -> Result<Plan, PlanError>
 fn plan_with_node_key<S: Source, D: Disk>(
     alloc: Global,
     source: &mut S,
-    file: KeyFile<D>,
+    file: KeyFile<D, LedgerLog>,
 ) -> (Result<Plan, PlanError>, D)
     requires open { IsTrue D.honest → IsOpened D.bytes D.past file }
     requires kind { (held file).key.kind ≡ Node }
@@ -68,7 +72,7 @@ fn plan_with_node_key<S: Source, D: Disk>(
     ensures refused { IfOk result.0 (λ plan. PrintsFault plan → result.1 ≡ disk_of file) }
     ensures stopped { result.0 ≡ Err PlanError.SourceFailed → result.1 ≡ disk_of file }
     ensures any_moment { IsTrue D.honest →
-        Leaves (OpensToOneOf any_frame (held file) (after_leaf Start (held file)))
+        Leaves (OpensToOneOf goes_on_ledger (held file) (after_leaf Start (held file)))
         (D.past (disk_of file)) (D.past result.1) }
 {
     let (reported, disk) = recover(alloc, source, file);
@@ -114,7 +118,7 @@ pub fn recovering_plan<S: Source, D: Disk>(
     ensures any_moment { IsTrue D.honest → HasGate journal_header (D.bytes disk) →
         MovesByLeaf Start (D.bytes disk) (D.past disk) (D.past result.1) }
 {
-    match KeyFile::open(alloc, disk, KeyKind::Node) {
+    match KeyFile::<D, LedgerLog>::open(alloc, disk, KeyKind::Node) {
         Ok(file) => plan_with_node_key(alloc, source, file),
         Err((error, disk)) => (open_stop(error), disk),
     }

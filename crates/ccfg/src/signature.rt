@@ -6,7 +6,10 @@ ghost use Rattle.gl_entry.specs.SourceBytes.{OfBytes};
 ghost use Rattle.gl_base.specs.declared.or_no_memory.OrNoMemory.{OrNoMemory};
 ghost use Rattle.gl_consortium.specs.declared.fault.SigningFault.{SigningFault};
 ghost use Rattle.gl_journal.specs.declared.fault.JournalFault.{JournalFault};
-ghost use Rattle.gl_keyfile.specs.KeyFile.{IsOpened, any_frame, disk_of, held, opened};
+ghost use Rattle.gl_keyfile.specs.KeyFile.{disk_of};
+ghost use Rattle.ccfg.specs.KeyFiles.{IsOpened, held};
+ghost use Rattle.gl_store_book.specs.NodeFile.{opened};
+ghost use Rattle.gl_store_book.specs.Frames.{goes_on_ledger};
 ghost use Rattle.gl_keyfile.specs.Leaf.{after_leaf};
 ghost use Rattle.gl_keyfile.specs.SigningRequest.{kind_of, use_of};
 ghost use Rattle.gl_journal.specs.Durable.{OpensToOneOf, journal_header};
@@ -26,6 +29,7 @@ use gl_consortium::{SigningFault, sign};
 use gl_journal::JournalFault;
 use gl_keyfile::{KeyFile, KeyFileFault, Signing};
 use gl_outside::{Disk, Source};
+use gl_store_book::LedgerLog;
 use std::alloc::Global;
 
 /// What there is to do where no key file could be opened.
@@ -71,7 +75,7 @@ fn sign_text<D: Disk>(
     alloc: Global,
     signing: &Signing,
     text: &[u8],
-    file: KeyFile<D>,
+    file: KeyFile<D, LedgerLog>,
 ) -> (Result<Plan, PlanError>, D)
     requires open { IsTrue D.honest → IsOpened D.bytes D.past file }
     requires kind { (held file).key.kind ≡ kind_of signing.now }
@@ -85,7 +89,7 @@ fn sign_text<D: Disk>(
     ensures spent { IsTrue D.honest → IfOk result.0 (λ plan.
         PrintsSpent (use_of signing.now) (D.bytes (disk_of file)) (D.past result.1) plan) }
     ensures refused { IfOk result.0 (λ plan. PrintsFault plan → result.1 ≡ disk_of file) }
-    ensures any_moment { IsTrue D.honest → Leaves (OpensToOneOf any_frame (held file)
+    ensures any_moment { IsTrue D.honest → Leaves (OpensToOneOf goes_on_ledger (held file)
         (after_leaf (use_of signing.now) (held file)))
         (D.past (disk_of file)) (D.past result.1) }
 {
@@ -102,7 +106,7 @@ fn plan_with_key<S: Source, D: Disk>(
     alloc: Global,
     signing: &Signing,
     source: &mut S,
-    file: KeyFile<D>,
+    file: KeyFile<D, LedgerLog>,
 ) -> (Result<Plan, PlanError>, D)
     requires open { IsTrue D.honest → IsOpened D.bytes D.past file }
     requires kind { (held file).key.kind ≡ kind_of signing.now }
@@ -119,7 +123,7 @@ fn plan_with_key<S: Source, D: Disk>(
     ensures spent { IsTrue D.honest → IfOk result.0 (λ plan.
         PrintsSpent (use_of signing.now) (D.bytes (disk_of file)) (D.past result.1) plan) }
     ensures refused { IfOk result.0 (λ plan. PrintsFault plan → result.1 ≡ disk_of file) }
-    ensures any_moment { IsTrue D.honest → Leaves (OpensToOneOf any_frame (held file)
+    ensures any_moment { IsTrue D.honest → Leaves (OpensToOneOf goes_on_ledger (held file)
         (after_leaf (use_of signing.now) (held file)))
         (D.past (disk_of file)) (D.past result.1) }
     ensures stopped { result.0 ≡ Err PlanError.SourceFailed → result.1 ≡ disk_of file }
@@ -168,7 +172,7 @@ pub fn signing_plan<S: Source, D: Disk>(
     ensures any_moment { IsTrue D.honest → HasGate journal_header (D.bytes disk) →
         MovesByLeaf (use_of signing.now) (D.bytes disk) (D.past disk) (D.past result.1) }
 {
-    match KeyFile::open(alloc, disk, signing.kind()) {
+    match KeyFile::<D, LedgerLog>::open(alloc, disk, signing.kind()) {
         Ok(file) => plan_with_key(alloc, signing, source, file),
         Err((error, disk)) => (open_stop(error), disk),
     }

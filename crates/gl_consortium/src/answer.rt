@@ -7,7 +7,7 @@ ghost use Rattle.gl_base.specs.declared.or_no_memory.OrNoMemory.{OrNoMemory};
 ghost use Rattle.gl_outside.specs.Fault.{Rose};
 ghost use Rattle.gl_outside.specs.Disk.{Leaves};
 ghost use Rattle.gl_journal.specs.Durable.{Durable as State, OpensToOneOf};
-ghost use Rattle.gl_keyfile.specs.KeyFile.{any_frame, opened, OpensOnlyTo, disk_of, held, IsOpened};
+ghost use Rattle.gl_keyfile.specs.KeyFile.{opened, OpensOnlyTo, disk_of, held, IsOpened};
 ghost use Rattle.gl_keyfile.specs.Leaf.{after_leaf};
 ghost use Rattle.gl_keyfile.specs.SigningRequest.{kind_of, use_of};
 ghost use Rattle.gl_consortium.specs.Texts.{fits};
@@ -22,7 +22,7 @@ use crate::leaf::{check_leaf, private_key};
 use crate::opening_ledger::{check_accepted, check_first_node, opening_bytes};
 use crate::request::request_bytes;
 use gl_base::OrNoMemory;
-use gl_journal::{JournalFault, Key};
+use gl_journal::{EntryLog, JournalFault, Key};
 use gl_keyfile::{KeyFile, KeyFileFault, Signing};
 use gl_outside::Disk;
 use gl_requests::Genesis;
@@ -117,26 +117,28 @@ fn keeping_fault(error: OrNoMemory<KeyFileFault>) -> OrNoMemory<SigningFault>
 /// made before the leaf is taken, and handed out only once the file keeps that the leaf is spent,
 /// whatever comes. A refusal, or running out of memory, leaves the disk as it was. Where the disk
 /// failed, a stop leaves the file as it was, or with the leaf spent unused.
-pub fn sign<D: Disk>(
+pub fn sign<D: Disk, L: EntryLog>(
     alloc: Global,
     signing: &Signing,
     text: &[u8],
-    file: KeyFile<D>,
+    file: KeyFile<D, L>,
 ) -> (Result<Vec<u8>, OrNoMemory<SigningFault>>, D)
-    requires open { IsTrue D.honest → IsOpened D.bytes D.past file }
-    requires kind { (held file).key.kind ≡ kind_of signing.now }
+    requires open { IsTrue D.honest → IsOpened L.goes_on L.frames D.bytes D.past file }
+    requires kind { (held L.frames file).key.kind ≡ kind_of signing.now }
 
     ensures reported { IfOk result.0 (λ reported.
-        expected_output signing.now (held file) text.now ≡ Ok reported.items) }
+        expected_output signing.now (held L.frames file) text.now ≡ Ok reported.items) }
     ensures refused { (fault : SigningFault) → result.0 ≡ Err (OrNoMemory.Fault fault) →
         (fault ≡ SigningFault.DiskFailed → ⊥) →
-        expected_output signing.now (held file) text.now ≡ Err fault }
+        expected_output signing.now (held L.frames file) text.now ≡ Err fault }
 
     // Before anything is told the file keeps that the leaf is spent, whatever comes.
     ensures kept { IsTrue D.honest → IfOk result.0 (λ reported.
-        opened (D.bytes result.1) ≡ Ok (after_leaf (use_of signing.now) (held file))) }
+        opened L.goes_on (D.bytes result.1)
+        ≡ Ok (after_leaf (use_of signing.now) (held L.frames file))) }
     ensures after { IsTrue D.honest → IfOk result.0 (λ reported.
-        OpensOnlyTo (D.past result.1) (after_leaf (use_of signing.now) (held file))) }
+        OpensOnlyTo L.goes_on (D.past result.1)
+        (after_leaf (use_of signing.now) (held L.frames file))) }
 
     // A refusal leaves the disk as it was.
     ensures untouched { (fault : SigningFault) → result.0 ≡ Err (OrNoMemory.Fault fault) →
@@ -147,7 +149,8 @@ pub fn sign<D: Disk>(
     // At every moment each image that a stop may leave opens to the state before, or to that after
     // the leaf.
     ensures any_moment { IsTrue D.honest →
-        Leaves (OpensToOneOf any_frame (held file) (after_leaf (use_of signing.now) (held file)))
+        Leaves (OpensToOneOf L.goes_on (held L.frames file)
+        (after_leaf (use_of signing.now) (held L.frames file)))
         (D.past (disk_of file)) (D.past result.1) }
 
     ensures disk_fault { result.0 ≡ Err (OrNoMemory.Fault SigningFault.DiskFailed) →

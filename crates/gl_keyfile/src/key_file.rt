@@ -9,26 +9,27 @@ ghost use Rattle.gl_journal.specs.Durable.{Durable as State, key_alone, journal_
 ghost use Rattle.gl_journal.specs.RecordView.{state_of};
 ghost use Rattle.gl_journal.specs.declared.fault.JournalFault.{JournalFault};
 ghost use Rattle.gl_journal.specs.declared.key.KeyKind.{KeyKind};
-ghost use Rattle.gl_keyfile.specs.KeyFile.{any_frame, opened, OpensOnlyTo, frames_of, disk_of, held, IsOpened};
+ghost use Rattle.gl_keyfile.specs.KeyFile.{opened, OpensOnlyTo, disk_of, held, IsOpened};
 ghost use Rattle.gl_keyfile.specs.declared.fault.KeyFileFault.{KeyFileFault};
 
 use crate::fault::KeyFileFault;
 use gl_base::{FIRST_VIEW, OrNoMemory};
-use gl_journal::{Durable, EntryLog, FrameLog, Journal, JournalFault, Key, KeyKind};
+use gl_journal::{Durable, EntryLog, Journal, JournalFault, Key, KeyKind};
 use gl_outside::Disk;
 use std::alloc::Global;
 
-/// A key file that was begun or opened, on a disk.
-#[derive(Debug, Drop)]
-pub struct KeyFile<D> {
+/// A key file that was begun or opened, on a disk. The log `L` says which frames go on it, where a
+/// node's file has a ledger.
+#[derive(Drop)]
+pub struct KeyFile<D, L> {
     pub journal: Journal<D>,
     /// What the file opened to.
-    pub state: Durable<FrameLog>,
+    pub state: Durable<L>,
 }
 
 /// What a file with a key alone opens to.
-fn key_alone(alloc: Global, key: Key) -> Durable<FrameLog>
-    ensures { state_of frames_of result ≡ key_alone key }
+fn key_alone<L: EntryLog>(alloc: Global, key: Key) -> Durable<L>
+    ensures { state_of L.frames result ≡ key_alone key }
 {
     Durable {
         key,
@@ -36,26 +37,27 @@ fn key_alone(alloc: Global, key: Key) -> Durable<FrameLog>
         vote: None,
         has_vote_record: false,
         base: 0,
-        log: FrameLog::new(alloc),
+        log: L::new(alloc),
         reserved: 0,
         start: None,
     }
 }
 
-impl<D: Disk> KeyFile<D> {
+impl<D: Disk, L: EntryLog> KeyFile<D, L> {
     /// Begins a key file, on a disk that holds nothing. Once it answers Ok, the file keeps the key
     /// whatever comes. An error gives the disk back.
     pub fn create(
         alloc: Global,
         disk: D,
         key: Key,
-    ) -> Result<KeyFile<D>, (OrNoMemory<KeyFileFault>, D)>
-        ensures open { IsTrue D.honest → IfOk result (λ file. IsOpened D.bytes D.past file) }
-        ensures state { IfOk result (λ file. held file ≡ key_alone key) }
+    ) -> Result<KeyFile<D, L>, (OrNoMemory<KeyFileFault>, D)>
+        ensures open { IsTrue D.honest → IfOk result (λ file.
+            IsOpened L.goes_on L.frames D.bytes D.past file) }
+        ensures state { IfOk result (λ file. held L.frames file ≡ key_alone key) }
         ensures kept { IsTrue D.honest → IfOk result (λ file.
-            opened (D.bytes (disk_of file)) ≡ Ok (key_alone key)) }
+            opened L.goes_on (D.bytes (disk_of file)) ≡ Ok (key_alone key)) }
         ensures after { IsTrue D.honest → IfOk result (λ file.
-            OpensOnlyTo (D.past (disk_of file)) (key_alone key)) }
+            OpensOnlyTo L.goes_on (D.past (disk_of file)) (key_alone key)) }
         ensures quiet { IfOk result (λ file. D.faults (disk_of file) ≡ D.faults disk) }
         ensures empty { IsTrue D.honest → IsOk result → D.bytes disk ≡ [] }
         ensures not_empty { IsTrue D.honest → (len : ℕ) (back : D) → result
@@ -89,33 +91,34 @@ impl<D: Disk> KeyFile<D> {
         alloc: Global,
         disk: D,
         want: KeyKind,
-    ) -> Result<KeyFile<D>, (OrNoMemory<KeyFileFault>, D)>
-        ensures open { IsTrue D.honest → IfOk result (λ file. IsOpened D.bytes D.past file) }
+    ) -> Result<KeyFile<D, L>, (OrNoMemory<KeyFileFault>, D)>
+        ensures open { IsTrue D.honest → IfOk result (λ file.
+            IsOpened L.goes_on L.frames D.bytes D.past file) }
         ensures durable { IsTrue D.honest → IfOk result (λ file.
-            opened (D.bytes disk) ≡ Ok (held file)) }
+            opened L.goes_on (D.bytes disk) ≡ Ok (held L.frames file)) }
         ensures after { IsTrue D.honest → IfOk result (λ file.
-            OpensOnlyTo (D.past (disk_of file)) (held file)) }
-        ensures kind { IfOk result (λ file. (held file).key.kind ≡ want) }
+            OpensOnlyTo L.goes_on (D.past (disk_of file)) (held L.frames file)) }
+        ensures kind { IfOk result (λ file. (held L.frames file).key.kind ≡ want) }
 
         // A key of another kind is refused, and the file then opens as before.
         ensures key_kind { IsTrue D.honest → (asked got : KeyKind) (back : D) →
             result ≡ Err (OrNoMemory.Fault (KeyFileFault.KeyKind asked got), back) →
-            (state : State) × (opened (D.bytes disk) ≡ Ok state) × (state.key.kind ≡ got)
-            × (opened (D.bytes back) ≡ Ok state) }
+            (state : State) × (opened L.goes_on (D.bytes disk) ≡ Ok state) × (state.key.kind ≡ got)
+            × (opened L.goes_on (D.bytes back) ≡ Ok state) }
         ensures kinds { (asked got : KeyKind) (back : D) →
             result ≡ Err (OrNoMemory.Fault (KeyFileFault.KeyKind asked got), back) →
             (asked ≡ want) × (got ≡ want → ⊥) }
         ensures damaged { IsTrue D.honest → (fault : JournalFault) (back : D) →
             result ≡ Err (OrNoMemory.Fault (KeyFileFault.Journal fault), back) →
-            (fault ≡ JournalFault.DiskFault → ⊥) → opened (D.bytes disk) ≡ Err fault }
+            (fault ≡ JournalFault.DiskFault → ⊥) → opened L.goes_on (D.bytes disk) ≡ Err fault }
 
         // At every moment each image that a stop may leave is one that it might have left before,
         // or opens to the same state.
         ensures any_moment { IsTrue D.honest → HasGate journal_header (D.bytes disk) →
-            IfOk result (λ file. Leaves (OpensToTheSame any_frame (D.bytes disk) (D.past disk))
+            IfOk result (λ file. Leaves (OpensToTheSame L.goes_on (D.bytes disk) (D.past disk))
             (D.past disk) (D.past (disk_of file))) }
         ensures any_moment_err { IsTrue D.honest → HasGate journal_header (D.bytes disk) →
-            IfErr result (λ e. Leaves (OpensToTheSame any_frame (D.bytes disk) (D.past disk))
+            IfErr result (λ e. Leaves (OpensToTheSame L.goes_on (D.bytes disk) (D.past disk))
             (D.past disk) (D.past e.1)) }
 
         ensures quiet { IfOk result (λ file. D.faults (disk_of file) ≡ D.faults disk) }
@@ -129,7 +132,7 @@ impl<D: Disk> KeyFile<D> {
         ensures never_exhausted { (reserved : ℕ) (back : D) →
             result ≡ Err (OrNoMemory.Fault (KeyFileFault.KeyExhausted reserved), back) → ⊥ }
     {
-        let (journal, state) = match Journal::open::<FrameLog>(alloc, disk) {
+        let (journal, state) = match Journal::open::<L>(alloc, disk) {
             Ok(found) => found,
             Err((error, disk)) => return Err((error.widen(), disk)),
         };
@@ -143,21 +146,21 @@ impl<D: Disk> KeyFile<D> {
 
     /// The file's key.
     pub fn key(&self) -> &Key
-        ensures { result.now ≡ (held self.now).key }
+        ensures { result.now ≡ (held L.frames self.now).key }
     {
         &self.state.key
     }
 
     /// How many leaves of the key are spent: the number of the next one.
     pub fn reserved(&self) -> u32
-        ensures { result ≡ (held self.now).reserved }
+        ensures { result ≡ (held L.frames self.now).reserved }
     {
         self.state.reserved
     }
 
     /// How many leaves were spent when the service started, if this key started one.
     pub fn start(&self) -> Option<u32>
-        ensures { result ≡ (held self.now).start }
+        ensures { result ≡ (held L.frames self.now).start }
     {
         self.state.start
     }

@@ -6,16 +6,16 @@ ghost use Rattle.gl_outside.specs.Fault.{Rose};
 ghost use Rattle.gl_outside.specs.Disk.{Leaves};
 ghost use Rattle.gl_journal.specs.Stops.{HasCause};
 ghost use Rattle.gl_journal.specs.Kept.{IsKept};
-ghost use Rattle.gl_journal.specs.Durable.{Durable as State, leaf_count, OpensToOneOf};
+ghost use Rattle.gl_journal.specs.Durable.{Durable as State, GoesOn, leaf_count, OpensToOneOf};
 ghost use Rattle.gl_journal.specs.declared.fault.JournalFault.{JournalFault};
-ghost use Rattle.gl_keyfile.specs.KeyFile.{any_frame, opened, OpensOnlyTo, disk_of, held, IsOpened};
+ghost use Rattle.gl_keyfile.specs.KeyFile.{opened, OpensOnlyTo, disk_of, held, IsOpened};
 ghost use Rattle.gl_keyfile.specs.Leaf.{after_leaf};
 ghost use Rattle.gl_keyfile.specs.declared.fault.KeyFileFault.{KeyFileFault};
 
 use crate::fault::KeyFileFault;
 use crate::key_file::KeyFile;
 use gl_base::OrNoMemory;
-use gl_journal::{Journal, JournalFault, Record};
+use gl_journal::{EntryLog, Journal, JournalFault, Record};
 use gl_outside::Disk;
 
 /// What a leaf is taken for.
@@ -47,18 +47,20 @@ fn keep_count<D: Disk>(
 ) -> Result<(), OrNoMemory<JournalFault>>
     requires open { IsTrue D.honest → IsKept D.bytes D.past journal.old }
 
-    ensures kept { IsTrue D.honest → (state : State) →
-        opened (D.bytes journal.old.gated.disk) ≡ Ok state →
+    ensures kept { IsTrue D.honest → (goes_on : GoesOn) (state : State) →
+        opened goes_on (D.bytes journal.old.gated.disk) ≡ Ok state →
         reserved ≡ state.reserved + 1 → state.reserved < leaf_count state →
-        OnOk result (opened (D.bytes journal.new.gated.disk) ≡ Ok (after_leaf leaf_use state)) }
-    ensures after { IsTrue D.honest → (state : State) →
-        opened (D.bytes journal.old.gated.disk) ≡ Ok state →
+        OnOk result
+        (opened goes_on (D.bytes journal.new.gated.disk) ≡ Ok (after_leaf leaf_use state)) }
+    ensures after { IsTrue D.honest → (goes_on : GoesOn) (state : State) →
+        opened goes_on (D.bytes journal.old.gated.disk) ≡ Ok state →
         reserved ≡ state.reserved + 1 → state.reserved < leaf_count state →
-        OnOk result (OpensOnlyTo (D.past journal.new.gated.disk) (after_leaf leaf_use state)) }
-    ensures any_moment { IsTrue D.honest → (state : State) →
-        opened (D.bytes journal.old.gated.disk) ≡ Ok state →
+        OnOk result
+        (OpensOnlyTo goes_on (D.past journal.new.gated.disk) (after_leaf leaf_use state)) }
+    ensures any_moment { IsTrue D.honest → (goes_on : GoesOn) (state : State) →
+        opened goes_on (D.bytes journal.old.gated.disk) ≡ Ok state →
         reserved ≡ state.reserved + 1 → state.reserved < leaf_count state →
-        Leaves (OpensToOneOf any_frame state (after_leaf leaf_use state))
+        Leaves (OpensToOneOf goes_on state (after_leaf leaf_use state))
         (D.past journal.old.gated.disk) (D.past journal.new.gated.disk) }
     ensures no_memory { IsTrue D.honest → result ≡ Err OrNoMemory.NoMemory →
         (D.bytes journal.new.gated.disk ≡ D.bytes journal.old.gated.disk)
@@ -76,41 +78,44 @@ fn keep_count<D: Disk>(
     }
 }
 
-impl<D: Disk> KeyFile<D> {
+impl<D: Disk, L: EntryLog> KeyFile<D, L> {
     /// Takes the next leaf of the key. Before it answers Ok, the file keeps that the leaf is spent,
     /// whatever comes. An error gives the disk back: with the state before where memory ran out or
     /// the key has no leaf left; where the disk failed, a stop leaves that state, or the one in
     /// which the leaf is spent unused.
     pub fn take_leaf(self, leaf_use: LeafUse) -> Result<TakenLeaf<D>, (OrNoMemory<KeyFileFault>, D)>
-        requires open { IsTrue D.honest → IsOpened D.bytes D.past self }
+        requires open { IsTrue D.honest → IsOpened L.goes_on L.frames D.bytes D.past self }
 
-        ensures leaf { IfOk result (λ taken. taken.leaf ≡ (held self).reserved) }
-        ensures below { IfOk result (λ taken. taken.leaf < leaf_count (held self)) }
+        ensures leaf { IfOk result (λ taken. taken.leaf ≡ (held L.frames self).reserved) }
+        ensures below { IfOk result (λ taken. taken.leaf < leaf_count (held L.frames self)) }
         ensures kept { IsTrue D.honest → IfOk result (λ taken.
-            opened (D.bytes taken.disk) ≡ Ok (after_leaf leaf_use (held self))) }
+            opened L.goes_on (D.bytes taken.disk) ≡ Ok (after_leaf leaf_use (held L.frames self))) }
         ensures after { IsTrue D.honest → IfOk result (λ taken.
-            OpensOnlyTo (D.past taken.disk) (after_leaf leaf_use (held self))) }
+            OpensOnlyTo L.goes_on (D.past taken.disk) (after_leaf leaf_use (held L.frames self))) }
 
         // At every moment each image that a stop may leave opens to the state before, or to that
         // after the leaf.
         ensures any_moment { IsTrue D.honest → IfOk result (λ taken.
-            Leaves (OpensToOneOf any_frame (held self) (after_leaf leaf_use (held self)))
+            Leaves (OpensToOneOf L.goes_on (held L.frames self)
+            (after_leaf leaf_use (held L.frames self)))
             (D.past (disk_of self)) (D.past taken.disk)) }
         ensures any_moment_err { IsTrue D.honest → IfErr result (λ e.
-            Leaves (OpensToOneOf any_frame (held self) (after_leaf leaf_use (held self)))
+            Leaves (OpensToOneOf L.goes_on (held L.frames self)
+            (after_leaf leaf_use (held L.frames self)))
             (D.past (disk_of self)) (D.past e.1)) }
 
         // A key gives no leaf exactly where all of them are spent, and nothing is done to the disk.
-        ensures exhausted { leaf_count (held self) ≤ (held self).reserved → result
+        ensures exhausted { leaf_count (held L.frames self) ≤ (held L.frames self).reserved → result
             ≡ Err (
-              OrNoMemory.Fault (KeyFileFault.KeyExhausted (held self).reserved),
+              OrNoMemory.Fault (KeyFileFault.KeyExhausted (held L.frames self).reserved),
               disk_of self,
             ) }
         ensures exhausted_only { (reserved : ℕ) (back : D) →
             result ≡ Err (OrNoMemory.Fault (KeyFileFault.KeyExhausted reserved), back) →
-            leaf_count (held self) ≤ (held self).reserved }
+            leaf_count (held L.frames self) ≤ (held L.frames self).reserved }
         // A file of an honest disk never tells more than all.
-        ensures within { IsTrue D.honest → (held self).reserved ≤ leaf_count (held self) }
+        ensures within { IsTrue D.honest →
+            (held L.frames self).reserved ≤ leaf_count (held L.frames self) }
 
         ensures no_memory { IsTrue D.honest → (back : D) →
             result ≡ Err (OrNoMemory.NoMemory, back) →
@@ -126,7 +131,7 @@ impl<D: Disk> KeyFile<D> {
         ensures only { (fault : KeyFileFault) (back : D) →
             result ≡ Err (OrNoMemory.Fault fault, back) →
             (fault ≡ KeyFileFault.Journal JournalFault.DiskFault)
-            ⊎ (fault ≡ KeyFileFault.KeyExhausted (held self).reserved) }
+            ⊎ (fault ≡ KeyFileFault.KeyExhausted (held L.frames self).reserved) }
     {
         let leaf = self.state.reserved;
         let mut journal = self.journal;

@@ -9,7 +9,7 @@ ghost use Rattle.gl_hss.specs.Types.{height};
 ghost use Rattle.gl_requests.specs.Ranges.{is_recovery};
 ghost use Rattle.gl_journal.specs.Durable.{OpensToOneOf};
 ghost use Rattle.gl_journal.specs.declared.key.KeyKind.TheVariants.{Node};
-ghost use Rattle.gl_keyfile.specs.KeyFile.{IsOpened, OpensOnlyTo, any_frame, disk_of, held, opened};
+ghost use Rattle.gl_keyfile.specs.KeyFile.{IsOpened, OpensOnlyTo, disk_of, held, opened};
 ghost use Rattle.gl_keyfile.specs.Leaf.{after_leaf};
 ghost use Rattle.gl_keyfile.specs.declared.leaf.LeafUse.TheVariants.{Start};
 ghost use Rattle.gl_entry.specs.SourceBytes.{OfBytes};
@@ -23,7 +23,7 @@ use crate::signer::{check_first_node, check_leaf, private_key};
 use crate::start_ledger::start;
 use gl_base::OrNoMemory;
 use gl_forms::read_recovery;
-use gl_journal::Key;
+use gl_journal::{EntryLog, Key};
 use gl_keyfile::{KeyFile, LeafUse};
 use gl_outside::{Disk, Source};
 use gl_requests::Recovery;
@@ -109,26 +109,26 @@ fn start_from_source<S: Source>(
 /// Refused, in this order, where the settings would have more than 1 MiB, where they end too early,
 /// where they have another form, where the key isn't that of their first node, where it has no leaf
 /// left, and then as `start` refuses. The source is blamed only where it failed, and counted that.
-pub fn recover<S: Source, D: Disk>(
+pub fn recover<S: Source, D: Disk, L: EntryLog>(
     alloc: Global,
     source: &mut S,
-    file: KeyFile<D>,
+    file: KeyFile<D, L>,
 ) -> (Result<Vec<u8>, OrNoMemory<RecoveringFault>>, D)
-    requires open { IsTrue D.honest → IsOpened D.bytes D.past file }
-    requires kind { (held file).key.kind ≡ Node }
+    requires open { IsTrue D.honest → IsOpened L.goes_on L.frames D.bytes D.past file }
+    requires kind { (held L.frames file).key.kind ≡ Node }
 
     ensures reported { IfOk result.0 (λ reported. OfBytes (S.left source.old) (λ given.
-        expected_recover (held file) given ≡ Ok reported.items)) }
+        expected_recover (held L.frames file) given ≡ Ok reported.items)) }
     ensures refused { (fault : RecoveringFault) → result.0 ≡ Err (Fault fault) →
         is_of_outside fault ≡ false → OfBytes (S.left source.old) (λ given.
-        expected_recover (held file) given ≡ Err fault) }
+        expected_recover (held L.frames file) given ≡ Err fault) }
 
     // Before anything is told the file keeps that the leaf is spent, and started a service,
     // whatever comes.
     ensures kept { IsTrue D.honest → OnOk result.0
-        (opened (D.bytes result.1) ≡ Ok (after_leaf Start (held file))) }
+        (opened L.goes_on (D.bytes result.1) ≡ Ok (after_leaf Start (held L.frames file))) }
     ensures after { IsTrue D.honest → OnOk result.0
-        (OpensOnlyTo (D.past result.1) (after_leaf Start (held file))) }
+        (OpensOnlyTo L.goes_on (D.past result.1) (after_leaf Start (held L.frames file))) }
 
     // A refusal leaves the disk as it was, and so does a failure of the source.
     ensures untouched { (fault : RecoveringFault) → result.0 ≡ Err (Fault fault) →
@@ -139,7 +139,7 @@ pub fn recover<S: Source, D: Disk>(
     // At every moment each image that a stop may leave opens to the state before, or to that after
     // the leaf.
     ensures any_moment { IsTrue D.honest →
-        Leaves (OpensToOneOf any_frame (held file) (after_leaf Start (held file)))
+        Leaves (OpensToOneOf L.goes_on (held L.frames file) (after_leaf Start (held L.frames file)))
         (D.past (disk_of file)) (D.past result.1) }
 
     ensures disk_fault { result.0 ≡ Err (Fault DiskFailed) →

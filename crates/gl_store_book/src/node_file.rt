@@ -11,7 +11,6 @@ ghost use Rattle.gl_journal.specs.declared.key.KeyKind.{KeyKind};
 ghost use Rattle.gl_store_book.specs.Frames.{goes_on_ledger};
 ghost use Rattle.gl_store_book.specs.NodeFile.{IsOpened, opened, seen_state};
 
-use crate::node_file::ledger_log::LedgerLog;
 use gl_base::OrNoMemory;
 use gl_config::NodeId;
 use gl_hss::LmsKey;
@@ -30,6 +29,7 @@ pub(crate) mod persist;
 mod replica;
 
 pub use fault::OpeningFault;
+pub use ledger_log::LedgerLog;
 
 /// No more leaves are reserved than the key has. A journal takes no greater number.
 fn within_leaves(mut state: Durable<LedgerLog>) -> Durable<LedgerLog>

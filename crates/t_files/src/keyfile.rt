@@ -3,12 +3,14 @@
 
 ghost use Rattle.std.specs.Prelude.{IfOk};
 ghost use Rattle.gl_outside.specs.SureDisk.{disk_past};
+ghost use Rattle.gl_journal.specs.Frames.{is_frame};
+ghost use Rattle.gl_journal.specs.Parts.{items_of};
 ghost use Rattle.gl_keyfile.specs.KeyFile.{IsOpened};
 
 use gl_base::OrNoMemory;
 use gl_forms::KeyForm;
 use gl_hss::Types;
-use gl_journal::{JournalFault, Key, KeyKind};
+use gl_journal::{FrameLog, JournalFault, Key, KeyKind};
 use gl_keyfile::{KeyFile, KeyFileFault, LeafUse, TakenLeaf, key_form};
 use gl_outside::{Disk, MemDisk, SureDisk, Tear};
 use sha2::{Digest, Sha256};
@@ -56,8 +58,9 @@ fn key_of(kind: KeyKind) -> Key {
 }
 
 /// A member's key file, as it was begun.
-fn created(alloc: Global) -> Result<KeyFile<SureDisk>, OrNoMemory<KeyFileFault>>
-    ensures { IfOk result (λ file. IsOpened (λ d. d.bytes.items) disk_past file) }
+fn created(alloc: Global) -> Result<KeyFile<SureDisk, FrameLog>, OrNoMemory<KeyFileFault>>
+    ensures { IfOk result (λ file. IsOpened (λ _ frame. is_frame frame)
+        (λ log. items_of log.frames.items) (λ d. d.bytes.items) disk_past file) }
 {
     match KeyFile::create(alloc, SureDisk::new(alloc), key_of(KeyKind::Member)) {
         Ok(file) => Ok(file),
@@ -70,8 +73,9 @@ fn opened(
     alloc: Global,
     bytes: &[u8],
     want: KeyKind,
-) -> Result<KeyFile<SureDisk>, OrNoMemory<KeyFileFault>>
-    ensures { IfOk result (λ file. IsOpened (λ d. d.bytes.items) disk_past file) }
+) -> Result<KeyFile<SureDisk, FrameLog>, OrNoMemory<KeyFileFault>>
+    ensures { IfOk result (λ file. IsOpened (λ _ frame. is_frame frame)
+        (λ log. items_of log.frames.items) (λ d. d.bytes.items) disk_past file) }
 {
     match KeyFile::open(alloc, SureDisk::holding(alloc, bytes)?, want) {
         Ok(file) => Ok(file),
@@ -150,7 +154,8 @@ fn a_file_opens_for_its_kind_alone(rt: HostRuntime) -> Result<(), Fail> {
 fn no_file_is_begun_on_a_disk_that_holds_one(rt: HostRuntime) -> Result<(), Fail> {
     let alloc = rt.alloc();
     let disk = created(alloc)?.into_disk();
-    let Err((error, disk)) = KeyFile::create(alloc, disk, key_of(KeyKind::Node)) else {
+    let begun = KeyFile::<SureDisk, FrameLog>::create(alloc, disk, key_of(KeyKind::Node));
+    let Err((error, disk)) = begun else {
         return Err(Fail::from("begun on a disk that holds a file"));
     };
     let fault = KeyFileFault::Journal(JournalFault::NotEmpty { len: 53 });
@@ -230,7 +235,7 @@ fn expect_fault(error: OrNoMemory<KeyFileFault>, faults: u64) -> Result<(), Fail
 fn end_at(alloc: Global, failing: u64) -> Result<usize, Fail> {
     let failing = [failing];
     let disk = MemDisk::new(SureDisk::new(alloc), &failing);
-    match KeyFile::create(alloc, disk, key_of(KeyKind::Member)) {
+    match KeyFile::<MemDisk<'_>, FrameLog>::create(alloc, disk, key_of(KeyKind::Member)) {
         Err((error, disk)) => {
             expect_fault(error, disk.faults())?;
             Ok(0)
@@ -275,7 +280,8 @@ fn a_fault_while_a_file_is_opened_is_printed(rt: HostRuntime) -> Result<(), Fail
     for number in 1..5 {
         let failing = [number];
         let disk = MemDisk::new(SureDisk::holding(alloc, &begun.bytes)?, &failing);
-        if let Err((error, disk)) = KeyFile::open(alloc, disk, KeyKind::Member) {
+        let opened = KeyFile::<MemDisk<'_>, FrameLog>::open(alloc, disk, KeyKind::Member);
+        if let Err((error, disk)) = opened {
             assert_eq!(rt; (error, disk.faults()), (DISK_FAULT, 1));
             faults = faults.saturating_add(1);
         }

@@ -80,8 +80,10 @@ pub enum Part<'a> {
     Member(&'a str, &'a str),
     /// The bytes that this member encodes.
     Encoded(&'a str, &'a str),
-    /// The frame of the entry with this number in the ledger that a run wrote.
+    /// The frame of the entry with this number in the ledger that a run wrote,
     Entry(&'static str, usize),
+    /// and the batch of a key file that appends it, without the gate behind it.
+    Append(&'static str, usize),
 }
 
 fn left_by<'a>(lefts: &'a [Left], name: &str) -> Option<&'a Left> {
@@ -237,6 +239,16 @@ fn put_numbered(
     Ok(())
 }
 
+/// An open gate, the length of a batch, and its one record, which appends this frame.
+fn put_append(out: &mut Vec<u8>, frame: &[u8]) -> Result<(), AllocError> {
+    let len = frame.len() as u32;
+    out.push(1)?;
+    out.extend_from_slice(&len.saturating_add(5).to_le_bytes())?;
+    out.push(4)?;
+    out.extend_from_slice(&len.to_le_bytes())?;
+    out.extend_from_slice(frame)
+}
+
 fn put_world(out: &mut Vec<u8>, settings: &str) -> Result<(), AllocError> {
     out.extend_from_slice(b"world ")?;
     out.extend_from_slice(settings.as_bytes())?;
@@ -348,6 +360,7 @@ fn put_left(
         Part::Entry(name, number) => {
             out.extend_from_slice(entry_in(written_by(lefts, name), *number))
         }
+        Part::Append(name, number) => put_append(out, entry_in(written_by(lefts, name), *number)),
         _ => Ok(()),
     }
 }

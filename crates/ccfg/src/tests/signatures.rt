@@ -4,7 +4,7 @@
 use crate::tests::founding::{GENESIS, NODE_KEY, SETTINGS};
 use crate::tests::part::Of::{Disk, Written};
 use crate::tests::part::Part;
-use crate::tests::part::Part::{All, Hex, Member, Prefix, Text, Times};
+use crate::tests::part::Part::{All, Append, Hex, Member, Prefix, Text, Times};
 use crate::tests::receipts::IDENTITY;
 use crate::tests::run::{InTurn, Output, RUN, Run, Words};
 use crate::tests::table::Table;
@@ -128,6 +128,21 @@ const UNFOLDED_FILE: Run<'static> = Run {
     name: "a record of no kind",
     disk: Some(UNFOLDED),
     disk_after: Some(UNFOLDED),
+    ..TEXT_FILE
+};
+
+/// A node's key file to which the second entry of a ledger is appended, at place 57: it goes on no
+/// ledger that has no first one.
+const FOREIGN: &[Part<'static>] = &[
+    Prefix(Disk("the node")),
+    Append("the opening", 2),
+    Hex("00"),
+];
+
+const FOREIGN_FILE: Run<'static> = Run {
+    name: "an entry that breaks a rule",
+    disk: Some(FOREIGN),
+    disk_after: Some(FOREIGN),
     ..TEXT_FILE
 };
 
@@ -258,7 +273,8 @@ fn play_no_keys(rt: &impl Abort, table: &mut Table) -> Result<(), AllocError> {
 
 fn play_foreign_files(rt: &impl Abort, table: &mut Table) -> Result<(), AllocError> {
     table.play_words(rt, &TEXT_FILE, OF_A_TEXT)?;
-    table.play_words(rt, &UNFOLDED_FILE, OF_A_BAD_RECORD)
+    table.play_words(rt, &UNFOLDED_FILE, OF_A_BAD_RECORD)?;
+    table.play_words(rt, &FOREIGN_FILE, OF_A_BAD_RECORD)
 }
 
 fn play_leaves(rt: &impl Abort, table: &mut Table) -> Result<(), AllocError> {

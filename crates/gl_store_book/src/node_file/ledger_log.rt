@@ -16,7 +16,7 @@ use std::alloc::{AllocError, Global};
 /// A valid ledger: each of its entries breaks no rule of the audit after those before it. It takes
 /// no memory before its first entry.
 #[derive(Drop)]
-pub(crate) struct LedgerLog {
+pub struct LedgerLog {
     ledger: Option<BookLedger>,
 }
 

@@ -1,5 +1,6 @@
 use Rattle.std.proofs.Common.{Err, ap, ◌∙◌}
-use Rattle.gl_keyfile.specs.KeyFile.{disk_of, held}
+use Rattle.gl_keyfile.specs.KeyFile.{disk_of}
+use Rattle.ccfg.specs.KeyFiles.{held}
 use Rattle.ccfg.proofs.RecoveringLemmas.{old_ended, old_printed, old_refused, old_untouched}
 use Rattle.ccfg.proofs.recovery.plan_with_node_key.Goals as goal
 

@@ -1,6 +1,8 @@
 use Rattle.std.proofs.Common.{Err, refl, ap}
 use Rattle.gl_journal.specs.declared.key.KeyKind.TheVariants.{Node}
-use Rattle.gl_keyfile.specs.KeyFile.{disk_of, held, opened}
+use Rattle.gl_keyfile.specs.KeyFile.{disk_of}
+use Rattle.ccfg.specs.KeyFiles.{held}
+use Rattle.gl_store_book.specs.NodeFile.{opened}
 use Rattle.gl_keyfile.specs.declared.leaf.LeafUse.TheVariants.{Start}
 use Rattle.ccfg.specs.ExpectedOutput.{output_of_old}
 use Rattle.ccfg.proofs.ShownLemmas.{beside}

@@ -1,6 +1,7 @@
 use Rattle.std.proofs.Common.{Err, ap}
 use Rattle.gl_journal.proofs.UnwrittenFiles.{none_done}
-use Rattle.gl_keyfile.specs.KeyFile.{any_frame, held}
+use Rattle.ccfg.specs.KeyFiles.{held}
+use Rattle.gl_store_book.specs.Frames.{goes_on_ledger}
 use Rattle.ccfg.proofs.SigningLemmas.{long_texts}
 use Rattle.ccfg.proofs.signature.plan_with_key.Goals as goal
 
@@ -11,14 +12,14 @@ returns-in-Err-TooLong-clause-output g c =
 pub returns-in-Err-TooLong-clause-any_moment : goal.returns-in-Err-TooLong-clause-any_moment
 returns-in-Err-TooLong-clause-any_moment g c = λ honest.
     let file = c.requires.open honest in
-    none_done any_frame g.D.Disk.bytes g.D.Disk.past c.args.file.journal _ (held c.args.file) _ file.kept file.state (ap g.D.Disk.past c.into_disk.ensures)
+    none_done goes_on_ledger g.D.Disk.bytes g.D.Disk.past c.args.file.journal _ (held c.args.file) _ file.kept file.state (ap g.D.Disk.past c.into_disk.ensures)
 
 pub returns-in-Err-Memory-clause-any_moment : goal.returns-in-Err-Memory-clause-any_moment
 returns-in-Err-Memory-clause-any_moment g c = λ honest.
     let file = c.requires.open honest in
-    none_done any_frame g.D.Disk.bytes g.D.Disk.past c.args.file.journal _ (held c.args.file) _ file.kept file.state (ap g.D.Disk.past c.into_disk-in-Err-Memory.ensures)
+    none_done goes_on_ledger g.D.Disk.bytes g.D.Disk.past c.args.file.journal _ (held c.args.file) _ file.kept file.state (ap g.D.Disk.past c.into_disk-in-Err-Memory.ensures)
 
 pub returns-in-Err-Failed-clause-any_moment : goal.returns-in-Err-Failed-clause-any_moment
 returns-in-Err-Failed-clause-any_moment g c = λ honest.
     let file = c.requires.open honest in
-    none_done any_frame g.D.Disk.bytes g.D.Disk.past c.args.file.journal _ (held c.args.file) _ file.kept file.state (ap g.D.Disk.past c.into_disk-in-Err-Failed.ensures)
+    none_done goes_on_ledger g.D.Disk.bytes g.D.Disk.past c.args.file.journal _ (held c.args.file) _ file.kept file.state (ap g.D.Disk.past c.into_disk-in-Err-Failed.ensures)

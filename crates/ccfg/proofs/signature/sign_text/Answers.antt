@@ -1,5 +1,5 @@
 use Rattle.std.proofs.Common.{Ok, Err, ap, ◌∙◌}
-use Rattle.gl_keyfile.specs.KeyFile.{held}
+use Rattle.ccfg.specs.KeyFiles.{held}
 use Rattle.ccfg.proofs.SigningLemmas.{short_text, unsigned_text}
 use Rattle.ccfg.proofs.signature.sign_text.Goals as goal
 

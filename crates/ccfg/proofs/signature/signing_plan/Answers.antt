@@ -1,5 +1,7 @@
 use Rattle.std.proofs.Common.{Err, refl, ap, sym, ◌∙◌}
-use Rattle.gl_keyfile.specs.KeyFile.{disk_of, held, opened}
+use Rattle.gl_keyfile.specs.KeyFile.{disk_of}
+use Rattle.ccfg.specs.KeyFiles.{held}
+use Rattle.gl_store_book.specs.NodeFile.{opened}
 use Rattle.gl_keyfile.specs.SigningRequest.{kind_of, use_of}
 use Rattle.ccfg.specs.ExpectedOutput.{output_of_text}
 use Rattle.ccfg.proofs.ShownLemmas.{beside}

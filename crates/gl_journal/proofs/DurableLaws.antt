@@ -3,12 +3,10 @@ use Rattle.std.proofs.Common.{Bool, true, false, if◌then◌else◌, ◌≡◌,
 use Rattle.std.proofs.lemmas.List.{append-nil}
 use Rattle.gl_base.specs.LittleEndian.{little_endian}
 use Rattle.gl_base.proofs.LittleEndianLaws.{length-little_endian}
-use Rattle.gl_outside.specs.Disk.{Step}
-use Rattle.gl_base.specs.declared.or_no_memory.OrNoMemory.{OrNoMemory}
 use Rattle.gl_journal.specs.Gates.{payloads_of, with_last}
-use Rattle.gl_journal.specs.Stops.{OpensTo, OpensAsBefore}
+use Rattle.gl_journal.specs.Stops.{OpensTo}
 use Rattle.gl_journal.specs.Records.{RecordValue, Key, record_body, record_bytes, records_bytes, IsRecord, AreRecords}
-use Rattle.gl_journal.specs.Durable.{Durable, GoesOn, Folding, key_alone, fold_records, fold_next, then_folding, fold_payloads, fold_answer, durable_of, durable, journal_header, OpensToOneOf, OpensToTheSame}
+use Rattle.gl_journal.specs.Durable.{Durable, GoesOn, Folding, key_alone, fold_records, fold_next, then_folding, fold_payloads, fold_answer, durable_of, durable, journal_header, OpensToOneOf}
 use Rattle.gl_journal.specs.declared.fault.JournalFault.{JournalFault}
 use Rattle.gl_journal.specs.declared.fault.JournalFault.TheVariants.{NotJournal}
 use Rattle.gl_journal.specs.declared.key.Key.{Key as KeyFields}
@@ -84,13 +82,3 @@ module _ (goes_on : GoesOn) where
   pub durable_same : (bytes bytes' : List ℕ) → payloads_of journal_header bytes ≡ payloads_of journal_header bytes' → durable goes_on bytes ≡ durable goes_on bytes'
   unfolding durable
   durable_same bytes bytes' is = ap (durable_of goes_on) is
-
-  -- an image that opens as before opens to the same state
-  pub same_state : (bytes : List ℕ) (past : List Step) (image : List ℕ) → OpensAsBefore journal_header bytes past image → OpensToTheSame goes_on bytes past image
-  same_state bytes past image opens = ⊎_elim (λ was. inl was) (λ here. inr (here.0, durable_same image bytes here.1)) opens
-
--- the fault that an answer holds
-pub error_of : {T D : Type 0} (error answered : OrNoMemory JournalFault) (disk back : D) → ◌≡◌ {A = Result T (OrNoMemory JournalFault × D)} (Err (error, disk)) (Err (answered, back)) → error ≡ answered
-error_of {T} {D} error answered disk back e =
-    let pair : (error, disk) ≡ (answered, back) = cc in
-    ap (λ (p : OrNoMemory JournalFault × D). p.0) pair

@@ -8,3 +8,4 @@ pub mod PayloadLaws
 pub mod DurableLaws
 pub mod Exits
 pub mod UnwrittenFiles
+pub mod JournalMoments

@@ -1,12 +1,12 @@
 -- Files that are settled once their end is closed.
-use Rattle.std.proofs.Common.{◌≡◌, ◌⊎◌, inl, inr, ⊎_elim, subst, take-append-drop, ℕ, ◌+◌, ◌<◌, ◌≤◌, List, [], ◌∷◌, ◌++◌, length, take, drop, Result, Ok, Err, OnOk, OnErr, sym, ◌∙◌, ap, arith, append_assoc, length-append}
+use Rattle.std.proofs.Common.{◌≡◌, inl, inr, subst, take-append-drop, ℕ, ◌+◌, ◌<◌, ◌≤◌, List, [], ◌∷◌, ◌++◌, length, take, drop, Result, Ok, Err, OnOk, OnErr, sym, ◌∙◌, ap, arith, append_assoc, length-append}
 use Rattle.std.proofs.lemmas.List.{append-nil, take_all, drop_all}
 use Rattle.gl_outside.specs.Disk.{Step, Kept, IsImage, Torn, LeavesOnly, Leaves, written}
-use Rattle.gl_outside.proofs.Moments.{stayed, so_too, then_too}
-use Rattle.gl_outside.proofs.Tearing.{kept_on, written-written}
+use Rattle.gl_outside.proofs.Moments.{started, stayed, so_too, then_too}
+use Rattle.gl_outside.proofs.Tearing.{kept_on}
 use Rattle.gl_journal.specs.Gates.{batches, payloads_of}
 use Rattle.gl_journal.specs.Parts.{FileParts, HasGate}
-use Rattle.gl_journal.specs.Stops.{IsSettled, OpensAsBefore}
+use Rattle.gl_journal.specs.Stops.{IsSettled, IsBegun}
 use Rattle.gl_journal.proofs.Appending.{closed_file, has_gate}
 use Rattle.gl_journal.proofs.PartLaws.{opens_by_parts}
 
@@ -41,11 +41,10 @@ written_first bytes piece none =
     ∙ ap (λ (l : List ℕ). take 0 [] ++ piece ++ l) (drop_all (0 + length piece) [] (omega arith)) ∙ append-nil piece
 
 -- a header and a closed gate on a disk that held nothing
-pub settled_at_first : (header bytes : List ℕ) (place : ℕ) (bytes' : List ℕ) (past : List Step) → bytes ≡ [] → place ≡ length header → bytes' ≡ written (written bytes 0 header) place (0 ∷ []) → LeavesOnly past bytes'
+pub settled_at_first : (header bytes : List ℕ) (place : ℕ) (bytes' : List ℕ) (past : List Step) → bytes ≡ [] → place ≡ length header → bytes' ≡ written bytes 0 (header ++ 0 ∷ []) → LeavesOnly past bytes'
     → IsSettled header place bytes' past × (payloads_of header bytes' ≡ Ok [])
 settled_at_first header bytes place bytes' past none here is keeps =
-    let whole : bytes' ≡ header ++ 0 ∷ [] =
-    is ∙ written-written bytes 0 place header (0 ∷ []) (omega arith) (omega arith) ∙ written_first bytes (header ++ 0 ∷ []) none in
+    let whole : bytes' ≡ header ++ 0 ∷ [] = is ∙ written_first bytes (header ++ 0 ∷ []) none in
     let file : bytes' ≡ header ++ [] ++ 0 ∷ [] = whole ∙ ap (λ (l : List ℕ). l ++ 0 ∷ []) (sym (append-nil header)) in (
       record { payloads = []; gate = 0; tail = []; file = file; closed = λ e. omega arith; fit = tt; current = here ∙ ap length (sym (append-nil header)); kept = keeps },
       ap (payloads_of header) file ∙ closed_file header [] 0 [] tt (λ e. omega arith),
@@ -63,18 +62,25 @@ torn_end header bytes image len has size torn =
           ∙ sym (opens_by_parts header bytes has.payloads has.place (has.gate ∷ has.tail) parts),
     )
 
--- reading what is kept
-pub read_leaves : (header bytes : List ℕ) (past after : List Step) → HasGate header bytes → Leaves (λ image. IsImage past image ⊎ (image ≡ bytes)) past after → Leaves (OpensAsBefore header bytes past) past after
-read_leaves header bytes past after has = so_too (λ image. IsImage past image ⊎ (image ≡ bytes)) (OpensAsBefore header bytes past) past after
-    (λ image left. ⊎_elim (λ was. inl was) (λ same. inr (subst (HasGate header) (sym same) has, ap (payloads_of header) same)) left)
+-- a call that did no step
+pub still : (past after : List Step) → after ≡ past → Leaves (IsImage past) past after
+still past after same = stayed (IsImage past) past past after (started (IsImage past) past (λ image left. left)) same
 
--- and then seeing to its end
-pub end_leaves : (header bytes bytes' : List ℕ) (len : ℕ) (past mid after : List Step) → HasGate header bytes → len ≡ length bytes → bytes' ≡ bytes → Leaves (λ image. IsImage past image ⊎ (image ≡ bytes)) past mid → Leaves (Torn len 1 bytes') mid after
-    → Leaves (OpensAsBefore header bytes past) past after
-end_leaves header bytes bytes' len past mid after has size same first second =
-    let P = OpensAsBefore header bytes past in
-    let torn = so_too (Torn len 1 bytes') P mid after (λ image t. inr (torn_end header bytes image len has size (subst (λ (b : List ℕ). Torn len 1 b image) same t))) second in
-    then_too P past mid after (read_leaves header bytes past mid has first) torn
+-- a sync of bytes that a stop might have left before
+pub still_kept : (past mid after : List Step) (bytes : List ℕ) → IsImage mid bytes → mid ≡ past → after ≡ Kept bytes ∷ mid → Leaves (IsImage past) past after
+still_kept past mid after bytes left same kept =
+    kept_on (IsImage past) past mid after bytes (still past mid same) kept (subst (λ (p : List Step). IsImage p bytes) same left)
+
+-- a sync of a disk that holds nothing, and a call that did no step
+pub begun_kept : (past mid after : List Step) (bytes : List ℕ) → bytes ≡ [] → mid ≡ Kept bytes ∷ past → after ≡ mid → Leaves (IsBegun past) past after
+begun_kept past mid after bytes none kept same =
+    let begun = started (IsBegun past) past (λ image left. inl left) in
+    stayed (IsBegun past) past mid after (kept_on (IsBegun past) past past mid bytes begun kept (inr (omega (arith, ap length none)))) same
+
+-- and then a write of its first bytes
+pub begun_torn : (past mid after : List Step) (bytes : List ℕ) (count : ℕ) → bytes ≡ [] → count ≤ 9 → Leaves (IsBegun past) past mid → Leaves (Torn 0 count bytes) mid after → Leaves (IsBegun past) past after
+begun_torn past mid after bytes count none small first second =
+    then_too (IsBegun past) past mid after first (so_too (Torn 0 count bytes) (IsBegun past) mid after (λ image torn. inr (omega (arith, ap length none, torn.no_longer))) second)
 
 -- a sync, whether it succeeded or failed
 pub sync_leaves : {T E : Type 0} (result : Result T E) (P : List ℕ → Type 0) (before mid after : List Step) (bytes : List ℕ) → OnOk result (after ≡ Kept bytes ∷ mid) → OnErr result (after ≡ mid)

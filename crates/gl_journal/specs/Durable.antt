@@ -173,3 +173,13 @@ abbrev pub OpensToTheSame : GoesOn → List ℕ → List Step → List ℕ → T
 OpensToTheSame goes_on bytes past image =
     IsImage past image
     ⊎ (HasGate journal_header image × (durable goes_on image ≡ durable goes_on bytes))
+
+-- An image opens to no state, or to this key alone.
+abbrev pub OpensToKeyOrNone : GoesOn → KeyFields → List ℕ → Type 0
+OpensToKeyOrNone goes_on key image =
+    ((fault : JournalFault) × (durable goes_on image ≡ Err fault))
+    ⊎ (durable goes_on image ≡ Ok (key_alone key))
+
+-- An image that a stop might have left before, or one that opens to no state or to this key alone.
+abbrev pub OpensToKeyAlone : GoesOn → KeyFields → List Step → List ℕ → Type 0
+OpensToKeyAlone goes_on key past image = IsImage past image ⊎ OpensToKeyOrNone goes_on key image

@@ -35,12 +35,10 @@ OpensTo header bytes payload image =
     × ((payloads_of header image ≡ payloads_of header bytes)
     ⊎ (payloads_of header image ≡ with_last payload (payloads_of header bytes)))
 
--- An image that a stop might have left before, or one that has its closed gate and opens as these
--- bytes do.
-abbrev pub OpensAsBefore : List ℕ → List ℕ → List Step → List ℕ → Type 0
-OpensAsBefore header bytes past image =
-    IsImage past image
-    ⊎ (HasGate header image × (payloads_of header image ≡ payloads_of header bytes))
+-- An image that a stop might have left before a file was begun, or one with at most the nine bytes of
+-- a header and a gate.
+abbrev pub IsBegun : List Step → List ℕ → Type 0
+IsBegun past image = IsImage past image ⊎ (length image ≤ 9)
 
 -- There is room on the disk for one more payload of so many bytes, whose gate stands at this place.
 pub record HasRoom (place size room_end room_calls : ℕ) : Type 0 where

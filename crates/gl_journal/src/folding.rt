@@ -1,8 +1,9 @@
 //! The fold of whole payloads.
 
-ghost use Rattle.std.specs.Prelude.{◌≡◌, ℕ, ◌+◌, ◌^◌, ◌<◌, List, [], ◌∷◌, length, IfSome, IfNone, IsOk, OnOk, None, Ok, Err, option_map};
+ghost use Rattle.std.specs.Prelude.{◌≡◌, ℕ, ◌+◌, ◌^◌, ◌<◌, ◌≤◌, List, [], ◌∷◌, length, IfSome, IfNone, IfOk, IsOk, OnOk, None, Ok, Err, option_map};
 ghost use Rattle.gl_journal.specs.declared.fault.JournalFault.{JournalFault};
 ghost use Rattle.gl_journal.specs.Gates.{opening_answer, payloads_from, payloads_of};
+ghost use Rattle.gl_journal.specs.Parts.{FileParts};
 ghost use Rattle.gl_journal.specs.Durable.{fold_payload, fold_opening, begins_with_key, durable_of, durable, journal_header};
 ghost use Rattle.gl_base.specs.Answers.{Answers};
 ghost use Rattle.gl_journal.specs.RecordView.{state_of};
@@ -11,9 +12,12 @@ use crate::decoding::record_of;
 use crate::durable::{Durable, fold_next};
 use crate::entry_log::EntryLog;
 use crate::fault::JournalFault;
-use crate::reader::{LENGTH_LIMIT, after_open_gate, batch_after};
+use crate::reader::{LENGTH_LIMIT, after_open_gate, batch_after, end_of_payloads};
 use gl_base::{Cut, OrNoMemory};
 use std::alloc::Global;
+
+/// What a journal's file begins with.
+pub(crate) const HEADER: [u8; 8] = *b"GLJOURN1";
 
 /// The first byte, and those after it.
 fn first_of(bytes: &[u8]) -> Option<(u8, &[u8])>
@@ -136,7 +140,7 @@ fn fold_batches<L: EntryLog>(
 }
 
 /// What the records of a journal's file fold into.
-pub(crate) fn fold_file<L: EntryLog>(
+fn fold_file<L: EntryLog>(
     alloc: Global,
     file: &[u8],
 ) -> Result<Durable<L>, OrNoMemory<JournalFault>>
@@ -146,4 +150,23 @@ pub(crate) fn fold_file<L: EntryLog>(
 {
     let (_, batches) = file.split_at(8);
     fold_batches(alloc, batches)
+}
+
+/// What a journal's file opens to, and the place of the closed gate after its batches.
+pub(crate) fn open_file<L: EntryLog>(
+    alloc: Global,
+    file: &[u8],
+) -> Result<(u64, Durable<L>), OrNoMemory<JournalFault>>
+    ensures parts { IfOk result (λ found. (payloads : List (List ℕ)) × (rest : List ℕ)
+        × FileParts journal_header file.now payloads found.0 rest) }
+    ensures within { IfOk result (λ found. found.0 ≤ length file.now) }
+    ensures state { IfOk result (λ found.
+        durable L.goes_on file.now ≡ Ok (state_of L.frames found.1)) }
+    ensures fault { (fault : JournalFault) → result ≡ Err (OrNoMemory.Fault fault) →
+        durable L.goes_on file.now ≡ Err fault }
+    ensures no_disk { result ≡ Err (OrNoMemory.Fault JournalFault.DiskFault) → ⊥ }
+{
+    let place = end_of_payloads(&HEADER, file)?;
+    let state = fold_file(alloc, file)?;
+    Ok((place as u64, state))
 }

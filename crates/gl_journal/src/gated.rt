@@ -35,7 +35,7 @@ fn seal(batch: &mut Vec<u8>)
 }
 
 /// Writes a piece and keeps it.
-fn write_kept<D: Disk>(disk: &mut D, at: u64, piece: &[u8]) -> Result<(), DiskFailed>
+pub(crate) fn write_kept<D: Disk>(disk: &mut D, at: u64, piece: &[u8]) -> Result<(), DiskFailed>
     requires joined { IsTrue D.honest → at ≤ length (D.bytes disk.old) }
     requires kept { IsTrue D.honest → LeavesOnly (D.past disk.old) (D.bytes disk.old) }
     requires room { at + length piece.now ≤ D.room_end disk.old }

@@ -7,7 +7,7 @@ ghost use Rattle.gl_outside.specs.Disk.{IsImage, Leaves};
 ghost use Rattle.gl_journal.specs.Gates.{payloads_of};
 ghost use Rattle.gl_journal.specs.Parts.{HasGate};
 ghost use Rattle.gl_journal.specs.Records.{Key as KeyOf, record_bytes, records_bytes};
-ghost use Rattle.gl_journal.specs.Durable.{GoesOn, Durable as State, durable, key_alone, fold_records, journal_header, OpensToOneOf, OpensToTheSame};
+ghost use Rattle.gl_journal.specs.Durable.{GoesOn, Durable as State, durable, key_alone, fold_records, journal_header, OpensToOneOf, OpensToTheSame, OpensToKeyOrNone, OpensToKeyAlone};
 ghost use Rattle.gl_journal.specs.RecordView.{record_values, state_of};
 ghost use Rattle.gl_journal.specs.Kept.{IsKept, HasBatchRoom};
 ghost use Rattle.gl_journal.specs.Stops.{HasCause};
@@ -16,9 +16,11 @@ ghost use Rattle.gl_journal.specs.declared.fault.JournalFault.{JournalFault};
 use crate::durable::Durable;
 use crate::entry_log::EntryLog;
 use crate::fault::JournalFault;
-use crate::folding::fold_file;
+use crate::folding::{HEADER, open_file};
 use crate::gated::Gated;
 use crate::key::Key;
+use crate::open::close_end;
+use crate::reader::read_all;
 use crate::record::{Record, begin_batch, put_key, put_records};
 use gl_base::OrNoMemory;
 use gl_outside::{Disk, DiskFailed};
@@ -31,8 +33,6 @@ pub struct Journal<D> {
     /// Memory for the next batch, with its length in front and a gate behind.
     buffer: Vec<u8>,
 }
-
-const HEADER: [u8; 8] = *b"GLJOURN1";
 
 impl<D: Disk> Journal<D> {
     /// Takes the memory for a batch of so many bytes.
@@ -135,6 +135,9 @@ impl<D: Disk> Journal<D> {
         ensures open { IsTrue D.honest → OnOk result (IsKept D.bytes D.past self.new) }
         ensures kept { IsTrue D.honest → (goes_on : GoesOn) →
             OnOk result (durable goes_on (D.bytes self.new.gated.disk) ≡ Ok (key_alone key.now)) }
+        ensures any_moment { IsTrue D.honest → (goes_on : GoesOn) →
+            Leaves (OpensToKeyOrNone goes_on key.now)
+            (D.past self.old.gated.disk) (D.past self.new.gated.disk) }
         ensures faults { Counts (D.faults self.old.gated.disk)
             (D.faults self.new.gated.disk) result }
     {
@@ -153,6 +156,15 @@ impl<D: Disk> Journal<D> {
         ensures open { IsTrue D.honest → IfOk result (λ journal. IsKept D.bytes D.past journal) }
         ensures kept { IsTrue D.honest → (goes_on : GoesOn) → IfOk result (λ journal.
             durable goes_on (D.bytes journal.gated.disk) ≡ Ok (key_alone key)) }
+
+        // At every moment each image that a stop may leave is one that it might have left before,
+        // or opens to no state, or to the key alone.
+        ensures any_moment { IsTrue D.honest → (goes_on : GoesOn) → IfOk result (λ journal.
+            Leaves (OpensToKeyAlone goes_on key (D.past disk))
+            (D.past disk) (D.past journal.gated.disk)) }
+        ensures any_moment_err { IsTrue D.honest → (goes_on : GoesOn) → IfErr result (λ e.
+            Leaves (OpensToKeyAlone goes_on key (D.past disk)) (D.past disk) (D.past e.1)) }
+
         ensures quiet { IfOk result (λ journal. D.faults journal.gated.disk ≡ D.faults disk) }
         ensures empty { IsTrue D.honest → IsOk result → D.bytes disk ≡ [] }
         ensures not_empty { IsTrue D.honest → (len : ℕ) (back : D) →
@@ -210,6 +222,17 @@ impl<D: Disk> Journal<D> {
             IfErr result (λ e. Leaves (OpensToTheSame L.goes_on (D.bytes disk) (D.past disk))
             (D.past disk) (D.past e.1)) }
 
+        // Where the bytes open to no state, a stop leaves what it might have left before, and they
+        // stay as they are, but after a failure of the disk.
+        ensures unopened { IsTrue D.honest → (fault : JournalFault) →
+            durable L.goes_on (D.bytes disk) ≡ Err fault →
+            IfErr result (λ e. Leaves (IsImage (D.past disk)) (D.past disk) (D.past e.1)) }
+        ensures unopened_bytes { IsTrue D.honest → (fault : JournalFault) →
+            durable L.goes_on (D.bytes disk) ≡ Err fault →
+            (error : OrNoMemory JournalFault) (back : D) → result ≡ Err (error, back) →
+            (error ≡ OrNoMemory.Fault JournalFault.DiskFault → ⊥) →
+            D.bytes back ≡ D.bytes disk }
+
         ensures quiet { IfOk result (λ found. D.faults found.0.gated.disk ≡ D.faults disk) }
         ensures disk_fault { (back : D) →
             result ≡ Err (OrNoMemory.Fault JournalFault.DiskFault, back) →
@@ -223,13 +246,24 @@ impl<D: Disk> Journal<D> {
             (fault ≡ JournalFault.DiskFault → ⊥) →
             durable L.goes_on (D.bytes disk) ≡ Err fault }
     {
-        let (gated, file) = match Gated::open(alloc, disk, HEADER) {
-            Ok(found) => found,
-            Err(error) => return Err(error),
+        let mut disk = disk;
+        let file = match read_all(alloc, &mut disk) {
+            Ok(file) => file,
+            Err(error) => return Err((error, disk)),
         };
-        let state = match fold_file(alloc, &file) {
-            Ok(state) => state,
-            Err(error) => return Err((error, gated.disk)),
+        let (place, state) = match open_file(alloc, &file) {
+            Ok(found) => found,
+            Err(error) => return Err((error, disk)),
+        };
+        match close_end(&mut disk, place, file.len() as u64) {
+            Ok(()) => {}
+            Err(error) => return Err((error, disk)),
+        }
+        let header = HEADER;
+        let gated = Gated {
+            disk,
+            header,
+            place,
         };
         let buffer = Vec::new(alloc);
         Ok((Journal { gated, buffer }, state))

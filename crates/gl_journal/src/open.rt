@@ -1,4 +1,4 @@
-//! How a file of payloads begins, and how it is opened again.
+//! How a file of payloads begins, and how its end is closed when it is opened again.
 
 ghost use Rattle.std.specs.Prelude.{◌≡◌, ◌⊎◌, ℕ, ◌+◌, ◌<◌, ◌≤◌, List, [], ◌∷◌, ◌++◌, length, IsTrue, OnOk, IfOk, IfErr, IsOk, Ok, Err};
 ghost use Rattle.gl_base.specs.declared.or_no_memory.OrNoMemory.{OrNoMemory};
@@ -6,15 +6,14 @@ ghost use Rattle.gl_outside.specs.Fault.{Rose};
 ghost use Rattle.gl_outside.specs.Disk.{Torn, LeavesOnly, Leaves, written};
 ghost use Rattle.gl_journal.specs.declared.fault.JournalFault.{JournalFault};
 ghost use Rattle.gl_journal.specs.Gates.{payloads_of};
-ghost use Rattle.gl_journal.specs.Parts.{FileParts, HasGate};
-ghost use Rattle.gl_journal.specs.Stops.{IsSettled, IsOpen, OpensAsBefore, HasCause};
+ghost use Rattle.gl_journal.specs.Parts.{FileParts};
+ghost use Rattle.gl_journal.specs.Stops.{IsSettled, IsOpen, IsBegun, HasCause};
 
 use crate::fault::JournalFault;
-use crate::gated::Gated;
-use crate::reader::{end_of_payloads, keep, read_all};
+use crate::gated::{Gated, write_kept};
+use crate::reader::keep;
 use gl_base::OrNoMemory;
 use gl_outside::Disk;
-use std::alloc::Global;
 
 /// Writes a closed gate at a place, and keeps it.
 fn close_gate<D: Disk>(disk: &mut D, at: u64) -> Result<(), OrNoMemory<JournalFault>>
@@ -38,7 +37,11 @@ fn close_gate<D: Disk>(disk: &mut D, at: u64) -> Result<(), OrNoMemory<JournalFa
 }
 
 /// Sees that a file of so many bytes has the closed gate that belongs at a place.
-fn close_end<D: Disk>(disk: &mut D, place: u64, len: u64) -> Result<(), OrNoMemory<JournalFault>>
+pub(crate) fn close_end<D: Disk>(
+    disk: &mut D,
+    place: u64,
+    len: u64,
+) -> Result<(), OrNoMemory<JournalFault>>
     requires size { IsTrue D.honest → len ≡ length (D.bytes disk.old) }
     requires within { place ≤ len }
     requires kept { IsTrue D.honest → LeavesOnly (D.past disk.old) (D.bytes disk.old) }
@@ -60,19 +63,33 @@ fn close_end<D: Disk>(disk: &mut D, place: u64, len: u64) -> Result<(), OrNoMemo
     close_gate(disk, place)
 }
 
-/// Writes the header and a closed gate to a disk that holds nothing, and keeps them.
+/// The header of a file, and a closed gate.
+fn header_and_gate(header: &[u8; 8]) -> [u8; 9]
+    ensures { result ≡ header.now ++ 0 ∷ [] }
+{
+    let mut start = [0; 9];
+    let (prefix, _) = start.split_at_mut(8);
+    prefix.copy_from_slice(header);
+    start
+}
+
+/// Writes the header and a closed gate to a disk that holds nothing, once that is kept, and keeps
+/// them.
 fn write_header<D: Disk>(disk: &mut D, header: &[u8; 8]) -> Result<(), OrNoMemory<JournalFault>>
     requires empty { IsTrue D.honest → D.bytes disk.old ≡ [] }
     ensures settled { IsTrue D.honest → OnOk result
         (IsSettled header.now 8 (D.bytes disk.new) (D.past disk.new)
         × (payloads_of header.now (D.bytes disk.new) ≡ Ok [])) }
+    ensures any_moment { IsTrue D.honest →
+        Leaves (IsBegun (D.past disk.old)) (D.past disk.old) (D.past disk.new) }
     ensures cause { HasCause (D.faults disk.old) (D.faults disk.new) result }
     ensures only { (fault : JournalFault) → result ≡ Err (OrNoMemory.Fault fault) →
         fault ≡ JournalFault.DiskFault }
 {
-    disk.room(8, 1)?;
-    disk.write_at(0, header).map_err(JournalFault::from)?;
-    close_gate(disk, 8)
+    keep(disk)?;
+    disk.room(9, 2)?;
+    write_kept(disk, 0, &header_and_gate(header)).map_err(JournalFault::from)?;
+    Ok(())
 }
 
 impl<D: Disk> Gated<D> {
@@ -81,6 +98,12 @@ impl<D: Disk> Gated<D> {
     pub fn create(disk: D, header: [u8; 8]) -> Result<Gated<D>, (OrNoMemory<JournalFault>, D)>
         ensures open { IsTrue D.honest → IfOk result (λ gated. IsOpen D.bytes D.past gated
             × (payloads_of header (D.bytes gated.disk) ≡ Ok [])) }
+        // At every moment each image that a stop may leave is one that it might have left before,
+        // or has at most the bytes of a header and a gate.
+        ensures any_moment { IsTrue D.honest → IfOk result (λ gated.
+            Leaves (IsBegun (D.past disk)) (D.past disk) (D.past gated.disk)) }
+        ensures any_moment_err { IsTrue D.honest → IfErr result (λ e.
+            Leaves (IsBegun (D.past disk)) (D.past disk) (D.past e.1)) }
         ensures header { IfOk result (λ gated. gated.header ≡ header) }
         ensures empty { IsTrue D.honest → IsOk result → D.bytes disk ≡ [] }
         ensures quiet { IfOk result (λ gated. D.faults gated.disk ≡ D.faults disk) }
@@ -119,63 +142,5 @@ impl<D: Disk> Gated<D> {
             header,
             place,
         })
-    }
-
-    /// Opens a file that a stop may have left, and gives its bytes as they were read, which open.
-    /// Where the file ends before the closed gate after its payloads, that gate is written. An
-    /// error gives the disk back.
-    pub fn open(
-        alloc: Global,
-        disk: D,
-        header: [u8; 8],
-    ) -> Result<(Gated<D>, Vec<u8>), (OrNoMemory<JournalFault>, D)>
-        ensures bytes { IsTrue D.honest → IfOk result (λ found. found.1.items ≡ D.bytes disk) }
-        ensures payloads { IfOk result (λ found. IsOk (payloads_of header found.1.items)) }
-        ensures place { IfOk result (λ found. (payloads : List (List ℕ)) × (rest : List ℕ)
-            × FileParts header found.1.items payloads found.0.place rest) }
-        ensures open { IsTrue D.honest → IfOk result (λ found. IsOpen D.bytes D.past found.0
-            × (payloads_of header (D.bytes found.0.disk) ≡ payloads_of header (D.bytes disk))) }
-        ensures header { IfOk result (λ found. found.0.header ≡ header) }
-
-        // At every moment each image that a stop may leave is one that it might have left before,
-        // or opens as the file did.
-        ensures any_moment { IsTrue D.honest → HasGate header (D.bytes disk) →
-            IfOk result (λ found. Leaves (OpensAsBefore header (D.bytes disk) (D.past disk))
-            (D.past disk) (D.past found.0.disk)) }
-        ensures any_moment_err { IsTrue D.honest → HasGate header (D.bytes disk) →
-            IfErr result (λ e. Leaves (OpensAsBefore header (D.bytes disk) (D.past disk))
-            (D.past disk) (D.past e.1)) }
-
-        ensures quiet { IfOk result (λ found. D.faults found.0.disk ≡ D.faults disk) }
-        ensures disk_fault { (back : D) →
-            result ≡ Err (OrNoMemory.Fault JournalFault.DiskFault, back) →
-            Rose (D.faults disk) (D.faults back) }
-        ensures no_disk_fault { (error : OrNoMemory JournalFault) (back : D) →
-            result ≡ Err (error, back) →
-            (error ≡ OrNoMemory.Fault JournalFault.DiskFault → ⊥) →
-            D.faults back ≡ D.faults disk }
-        ensures damaged { IsTrue D.honest → (fault : JournalFault) (back : D) →
-            result ≡ Err (OrNoMemory.Fault fault, back) →
-            (fault ≡ JournalFault.DiskFault → ⊥) → payloads_of header (D.bytes disk) ≡ Err fault }
-    {
-        let mut disk = disk;
-        let bytes = match read_all(alloc, &mut disk) {
-            Ok(bytes) => bytes,
-            Err(error) => return Err((error, disk)),
-        };
-        let place = match end_of_payloads(&header, &bytes) {
-            Ok(place) => place as u64,
-            Err(fault) => return Err((OrNoMemory::Fault(fault), disk)),
-        };
-        match close_end(&mut disk, place, bytes.len() as u64) {
-            Ok(()) => {}
-            Err(error) => return Err((error, disk)),
-        }
-        let gated = Gated {
-            disk,
-            header,
-            place,
-        };
-        Ok((gated, bytes))
     }
 }

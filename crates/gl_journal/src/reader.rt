@@ -1,7 +1,8 @@
 //! The payloads of a file, read from its bytes.
 
-ghost use Rattle.std.specs.Prelude.{◌≡◌, ◌⊎◌, ℕ, ◌+◌, ◌^◌, ◌<◌, ◌≤◌, List, ◌∷◌, ◌++◌, length, IsTrue, IsOk, OnOk, OnErr, IfOk, IfSome, IfNone, Ok, Err};
+ghost use Rattle.std.specs.Prelude.{◌≡◌, ℕ, ◌+◌, ◌^◌, ◌<◌, ◌≤◌, List, ◌∷◌, ◌++◌, length, IsTrue, IsOk, OnOk, OnErr, IfOk, IfSome, IfNone, Ok, Err};
 ghost use Rattle.gl_outside.specs.Disk.{Kept, IsImage, LeavesOnly, Leaves};
+ghost use Rattle.gl_base.specs.declared.or_no_memory.OrNoMemory.{OrNoMemory};
 ghost use Rattle.gl_journal.specs.declared.fault.JournalFault.{JournalFault};
 ghost use Rattle.gl_journal.specs.Gates.{body_of, payloads_from, mismatch, payloads_of};
 ghost use Rattle.gl_journal.specs.Parts.{FileParts, Parts, IsClosed};
@@ -112,6 +113,8 @@ pub(crate) fn keep<D: Disk>(disk: &mut D) -> Result<(), OrNoMemory<JournalFault>
         OnOk result (D.past disk.new ≡ Kept (D.bytes disk.old) ∷ D.past disk.old) }
     ensures failed { IsTrue D.honest → OnErr result (D.past disk.new ≡ D.past disk.old) }
     ensures same { IsTrue D.honest → OnOk result (D.bytes disk.new ≡ D.bytes disk.old) }
+    ensures no_memory { IsTrue D.honest → result ≡ Err OrNoMemory.NoMemory →
+        D.bytes disk.new ≡ D.bytes disk.old }
     ensures cause { HasCause (D.faults disk.old) (D.faults disk.new) result }
     ensures only { (fault : JournalFault) → result ≡ Err (OrNoMemory.Fault fault) →
         fault ≡ JournalFault.DiskFault }
@@ -121,38 +124,28 @@ pub(crate) fn keep<D: Disk>(disk: &mut D) -> Result<(), OrNoMemory<JournalFault>
     Ok(())
 }
 
-/// All bytes of a disk.
-fn read_bytes<D: Disk>(alloc: Global, disk: &mut D) -> Result<Vec<u8>, OrNoMemory<JournalFault>>
-    ensures bytes { IsTrue D.honest → IfOk result (λ all. all.items ≡ D.bytes disk.old) }
-    ensures same { IsTrue D.honest → D.bytes disk.new ≡ D.bytes disk.old }
-    ensures past { IsTrue D.honest → D.past disk.new ≡ D.past disk.old }
-    ensures cause { HasCause (D.faults disk.old) (D.faults disk.new) result }
-    ensures only { (fault : JournalFault) → result ≡ Err (OrNoMemory.Fault fault) →
-        fault ≡ JournalFault.DiskFault }
-{
-    let len = disk.len().map_err(JournalFault::from)?;
-    let mut bytes = vec![in alloc; 0u8; len as usize]?;
-    disk.read_at(0, &mut bytes).map_err(JournalFault::from)?;
-    Ok(bytes)
-}
-
-/// All bytes of a disk, once they are kept.
+/// All bytes of a disk, once they are kept. They are asked for first, so that they are among those
+/// that a stop might have left.
 pub(crate) fn read_all<D: Disk>(
     alloc: Global,
     disk: &mut D,
 ) -> Result<Vec<u8>, OrNoMemory<JournalFault>>
     ensures bytes { IsTrue D.honest → IfOk result (λ all. all.items ≡ D.bytes disk.old) }
     ensures same { IsTrue D.honest → OnOk result (D.bytes disk.new ≡ D.bytes disk.old) }
+    ensures no_memory { IsTrue D.honest → result ≡ Err OrNoMemory.NoMemory →
+        D.bytes disk.new ≡ D.bytes disk.old }
     ensures kept { IsTrue D.honest →
         OnOk result (LeavesOnly (D.past disk.new) (D.bytes disk.old)) }
-    // A stop leaves what it might have left before, or the bytes as they read.
-    ensures any_moment { IsTrue D.honest →
-        Leaves (λ image. IsImage (D.past disk.old) image ⊎ (image ≡ D.bytes disk.old))
-        (D.past disk.old) (D.past disk.new) }
+    // A stop leaves what it might have left before.
+    ensures images { IsTrue D.honest →
+        Leaves (IsImage (D.past disk.old)) (D.past disk.old) (D.past disk.new) }
     ensures cause { HasCause (D.faults disk.old) (D.faults disk.new) result }
     ensures only { (fault : JournalFault) → result ≡ Err (OrNoMemory.Fault fault) →
         fault ≡ JournalFault.DiskFault }
 {
+    let len = disk.len().map_err(JournalFault::from)?;
+    let mut bytes = vec![in alloc; 0u8; len as usize]?;
     keep(disk)?;
-    read_bytes(alloc, disk)
+    disk.read_at(0, &mut bytes).map_err(JournalFault::from)?;
+    Ok(bytes)
 }

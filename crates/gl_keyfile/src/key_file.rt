@@ -3,9 +3,9 @@
 ghost use Rattle.std.specs.Prelude.{◌≡◌, ◌⊎◌, ℕ, ◌<◌, [], List, length, IsTrue, IfOk, IfErr, IsOk, Ok, Err};
 ghost use Rattle.gl_base.specs.declared.or_no_memory.OrNoMemory.{OrNoMemory};
 ghost use Rattle.gl_outside.specs.Fault.{Rose};
-ghost use Rattle.gl_outside.specs.Disk.{Leaves};
+ghost use Rattle.gl_outside.specs.Disk.{IsImage, Leaves};
 ghost use Rattle.gl_journal.specs.Parts.{HasGate};
-ghost use Rattle.gl_journal.specs.Durable.{Durable as State, key_alone, journal_header, OpensToTheSame};
+ghost use Rattle.gl_journal.specs.Durable.{Durable as State, key_alone, journal_header, OpensToKeyAlone, OpensToTheSame};
 ghost use Rattle.gl_journal.specs.RecordView.{state_of};
 ghost use Rattle.gl_journal.specs.declared.fault.JournalFault.{JournalFault};
 ghost use Rattle.gl_journal.specs.declared.key.KeyKind.{KeyKind};
@@ -58,6 +58,15 @@ impl<D: Disk, L: EntryLog> KeyFile<D, L> {
             opened L.goes_on (D.bytes (disk_of file)) ≡ Ok (key_alone key)) }
         ensures after { IsTrue D.honest → IfOk result (λ file.
             OpensOnlyTo L.goes_on (D.past (disk_of file)) (key_alone key)) }
+
+        // At every moment each image that a stop may leave is one that it might have left before,
+        // or opens to no key file, or to the key alone.
+        ensures any_moment { IsTrue D.honest → IfOk result (λ file.
+            Leaves (OpensToKeyAlone L.goes_on key (D.past disk))
+            (D.past disk) (D.past (disk_of file))) }
+        ensures any_moment_err { IsTrue D.honest → IfErr result (λ e.
+            Leaves (OpensToKeyAlone L.goes_on key (D.past disk)) (D.past disk) (D.past e.1)) }
+
         ensures quiet { IfOk result (λ file. D.faults (disk_of file) ≡ D.faults disk) }
         ensures empty { IsTrue D.honest → IsOk result → D.bytes disk ≡ [] }
         ensures not_empty { IsTrue D.honest → (len : ℕ) (back : D) → result
@@ -120,6 +129,17 @@ impl<D: Disk, L: EntryLog> KeyFile<D, L> {
         ensures any_moment_err { IsTrue D.honest → HasGate journal_header (D.bytes disk) →
             IfErr result (λ e. Leaves (OpensToTheSame L.goes_on (D.bytes disk) (D.past disk))
             (D.past disk) (D.past e.1)) }
+
+        // Where the bytes are no key file, a stop leaves what it might have left before, and they
+        // stay as they are, but after a failure of the disk.
+        ensures unopened { IsTrue D.honest → (fault : JournalFault) →
+            opened L.goes_on (D.bytes disk) ≡ Err fault →
+            IfErr result (λ e. Leaves (IsImage (D.past disk)) (D.past disk) (D.past e.1)) }
+        ensures unopened_bytes { IsTrue D.honest → (fault : JournalFault) →
+            opened L.goes_on (D.bytes disk) ≡ Err fault →
+            (error : OrNoMemory KeyFileFault) (back : D) → result ≡ Err (error, back) →
+            (error ≡ OrNoMemory.Fault (KeyFileFault.Journal JournalFault.DiskFault) → ⊥) →
+            D.bytes back ≡ D.bytes disk }
 
         ensures quiet { IfOk result (λ file. D.faults (disk_of file) ≡ D.faults disk) }
         ensures disk_fault { (back : D) → result

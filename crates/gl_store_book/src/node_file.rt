@@ -3,7 +3,7 @@
 ghost use Rattle.std.specs.Prelude.{◌≡◌, ◌≢◌, ◌⊎◌, ◌≤◌, length, IsTrue, IfOk, IfErr, Ok, Err};
 ghost use Rattle.gl_base.specs.declared.or_no_memory.OrNoMemory.{OrNoMemory};
 ghost use Rattle.gl_outside.specs.Fault.{Rose};
-ghost use Rattle.gl_outside.specs.Disk.{Leaves};
+ghost use Rattle.gl_outside.specs.Disk.{IsImage, Leaves};
 ghost use Rattle.gl_journal.specs.Parts.{HasGate};
 ghost use Rattle.gl_journal.specs.Durable.{Durable as State, journal_header, leaf_count, OpensToTheSame};
 ghost use Rattle.gl_journal.specs.declared.fault.JournalFault.{JournalFault};
@@ -59,6 +59,16 @@ fn open_journal<D: Disk>(
     ensures any_moment_err { IsTrue D.honest → HasGate journal_header (D.bytes disk) →
         IfErr result (λ e. Leaves (OpensToTheSame goes_on_ledger (D.bytes disk) (D.past disk))
         (D.past disk) (D.past e.1)) }
+    // Where the bytes open to no state, a stop leaves what it might have left before, and they stay
+    // as they are, but after a failure of the disk.
+    ensures unopened { IsTrue D.honest → (fault : JournalFault) →
+        opened (D.bytes disk) ≡ Err fault →
+        IfErr result (λ e. Leaves (IsImage (D.past disk)) (D.past disk) (D.past e.1)) }
+    ensures unopened_bytes { IsTrue D.honest → (fault : JournalFault) →
+        opened (D.bytes disk) ≡ Err fault →
+        (error : OrNoMemory JournalFault) (back : D) → result ≡ Err (error, back) →
+        error ≢ OrNoMemory.Fault JournalFault.DiskFault →
+        D.bytes back ≡ D.bytes disk }
     ensures quiet { IfOk result (λ found. D.faults found.0.gated.disk ≡ D.faults disk) }
     ensures disk_fault { (back : D) →
         result ≡ Err (OrNoMemory.Fault JournalFault.DiskFault, back) →
@@ -133,6 +143,17 @@ impl<D: Disk + Drop> NodeFile<D> {
         ensures any_moment_err { IsTrue D.honest → HasGate journal_header (D.bytes disk) →
             IfErr result (λ e. Leaves (OpensToTheSame goes_on_ledger (D.bytes disk) (D.past disk))
             (D.past disk) (D.past e.1)) }
+
+        // Where the bytes open to no state, a stop leaves what it might have left before, and they
+        // stay as they are, but after a failure of the disk.
+        ensures unopened { IsTrue D.honest → (fault : JournalFault) →
+            opened (D.bytes disk) ≡ Err fault →
+            IfErr result (λ e. Leaves (IsImage (D.past disk)) (D.past disk) (D.past e.1)) }
+        ensures unopened_bytes { IsTrue D.honest → (fault : JournalFault) →
+            opened (D.bytes disk) ≡ Err fault →
+            (error : OrNoMemory OpeningFault) (back : D) → result ≡ Err (error, back) →
+            error ≢ OrNoMemory.Fault (OpeningFault.Journal JournalFault.DiskFault) →
+            D.bytes back ≡ D.bytes disk }
 
         ensures quiet { IfOk result (λ file. D.faults file.disk ≡ D.faults disk) }
         ensures disk_fault { (back : D) → result

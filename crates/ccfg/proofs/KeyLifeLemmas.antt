@@ -89,9 +89,12 @@ spends_next leaf key spent r e b takes s =
       },
     )
 
-pub signs : {S D : Type 0} (leaf : LeafUse) (key : Key) (spent : ℕ) (r : Run S D) (e : Ending) → BeginsWithKey key spent r.disk → TakesLeaf leaf r e → (e ≡ endings.Done) ⊎ (e ≡ endings.SinkFailed) ⊎ (e ≡ endings.Memory) →
+pub signs : {S D : Type 0} (leaf : LeafUse) (key : Key) (spent : ℕ) (r : Run S D) → BeginsWithKey key spent r.disk → TakesLeaf leaf r endings.Done → (q : ℕ) × (spent ≤ q) × SpendsNext key q r.disk
+signs leaf key spent r b takes = spends_next leaf key spent r endings.Done b takes (takes.signed refl)
+
+pub may_sign : {S D : Type 0} (leaf : LeafUse) (key : Key) (spent : ℕ) (r : Run S D) (e : Ending) → BeginsWithKey key spent r.disk → TakesLeaf leaf r e → (e ≡ endings.SinkFailed) ⊎ (e ≡ endings.Memory) →
     ((q : ℕ) × (spent ≤ q) × SpendsNext key q r.disk) ⊎ PrintsFaultPrefix r.sink.held r.sink.holds
-signs leaf key spent r e b takes is = go (takes.spent is)
+may_sign leaf key spent r e b takes is = go (takes.spent (inr is))
   where
     go : SpendsLeaf leaf (r.disk.bytes r.disk.before) (r.disk.past r.disk.after) ⊎ PrintsFaultPrefix r.sink.held r.sink.holds → ((q : ℕ) × (spent ≤ q) × SpendsNext key q r.disk) ⊎ PrintsFaultPrefix r.sink.held r.sink.holds
     go (inl s) = inl (spends_next leaf key spent r e b takes s)

@@ -36,9 +36,12 @@ pub fn law_of_leaves<S, D>()
     ensures goes_on { (leaf : LeafUse) (key : Key) (spent : ℕ) (r : Run S D) (e : Endings)
         → BeginsWithKey key spent r.disk → TakesLeaf leaf r e
         → Leaves (HoldsKey key spent) (r.disk.past r.disk.before) (r.disk.past r.disk.after) }
-    ensures signs { (leaf : LeafUse) (key : Key) (spent : ℕ) (r : Run S D) (e : Endings)
+    ensures signs { (leaf : LeafUse) (key : Key) (spent : ℕ) (r : Run S D)
+        → BeginsWithKey key spent r.disk → TakesLeaf leaf r Done
+        → (q : ℕ) × (spent ≤ q) × SpendsNext key q r.disk }
+    ensures may_sign { (leaf : LeafUse) (key : Key) (spent : ℕ) (r : Run S D) (e : Endings)
         → BeginsWithKey key spent r.disk → TakesLeaf leaf r e
-        → (e ≡ Done) ⊎ (e ≡ SinkFailed) ⊎ (e ≡ Memory)
+        → (e ≡ SinkFailed) ⊎ (e ≡ Memory)
         → ((q : ℕ) × (spent ≤ q) × SpendsNext key q r.disk)
         ⊎ PrintsFaultPrefix r.sink.held r.sink.holds }
 {}

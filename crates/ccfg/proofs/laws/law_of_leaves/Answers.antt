@@ -8,4 +8,7 @@ pub returns-clause-goes_on : goal.returns-clause-goes_on
 returns-clause-goes_on g c = λ leaf key spent r e begins takes. lives.goes_on leaf key spent r e begins takes
 
 pub returns-clause-signs : goal.returns-clause-signs
-returns-clause-signs g c = λ leaf key spent r e begins takes is. lives.signs leaf key spent r e begins takes is
+returns-clause-signs g c = λ leaf key spent r begins takes. lives.signs leaf key spent r begins takes
+
+pub returns-clause-may_sign : goal.returns-clause-may_sign
+returns-clause-may_sign g c = λ leaf key spent r e begins takes is. lives.may_sign leaf key spent r e begins takes is

@@ -30,7 +30,8 @@ JOIN, MARK = 3, 4  # requests of governance that nobody signs
 STATUSES = ["Unknown", "Pending", "Committed", "Invalid"]
 PROPOSALS = ["", "Open", "Accepted", "Rejected", "Withdrawn", "Failed", "Dropped"]
 NOT_LEADER = 110  # refused: the view, and the leader's identifier, empty where none is known
-DIGESTS = {52, 100, 103}  # refusals whose values are digests
+NUMBERS_FIRST = {52: 0, 100: 0, 103: 0, NOT_LEADER: 1, 117: 1}  # refusals with bytes after so many numbers
+BAD_SIGNATURE, OTHER_ROOT = 118, 23  # refused: the seqno, the fault, and of another root both roots
 
 
 def big(n, size):
@@ -143,12 +144,18 @@ class Fields:
 
 
 def values_of(code, fields):
-    """The values of a refusal: numbers; digests; a view and a leader, whose identifier is empty where
-    none is known."""
-    values = [fields.number(8)] if code == NOT_LEADER else []
+    """The values of a refusal: numbers, and after them in some refusals digests, or the leader's identifier, which is
+    empty where none is known.
+
+    >>> root = little(2, 4) + b"ab"
+    >>> values_of(BAD_SIGNATURE, Fields(little(7, 8) + little(OTHER_ROOT, 8) + root + root))
+    [7, 23, '6162', '6162']
+    """
+    values = []
     while fields.data:
-        bytes_alone = code in DIGESTS or code == NOT_LEADER
-        values.append(fields.field().hex() if bytes_alone else fields.number(8))
+        first = 2 if code == BAD_SIGNATURE and OTHER_ROOT in values[1:2] else NUMBERS_FIRST.get(code)
+        is_number = first is None or len(values) < first
+        values.append(fields.number(8) if is_number else fields.field().hex())
     return values
 
 

@@ -1,5 +1,5 @@
 -- What a node answers that refuses an event is what the rules answer.
-use Rattle.std.proofs.Common.{◌≡◌, Option, Some, None, option_map, refl, ap}
+use Rattle.std.proofs.Common.{◌≡◌, Option, Some, None, option_map, refl}
 use Rattle.gl_rules.specs.Outcome as rules
 use Rattle.gl_replication.specs.Stands.{Answers}
 use Rattle.gl_replication.specs.declared.done.Refusal.{Refusal}

@@ -69,8 +69,8 @@ KeepsKey kind types past seed =
 -- to no key file, or to the key of this kind, these types and this seed alone.
 abbrev pub MovesToKey : KeyKind → Types → List Step → List Step → List ℕ → Type 0
 MovesToKey kind types before after seed =
-    Leaves (OpensToKeyAlone goes_on_ledger (record { kind = kind; types = types; seed = seed }) before)
-    before after
+    Leaves (OpensToKeyAlone goes_on_ledger
+    (record { kind = kind; types = types; seed = seed }) before) before after
 
 -- Where a key is begun, it is kept before it is shown, and nothing else is reported but a fault.
 abbrev pub ShowsKept : KeyKind → Types → List Step → List ℕ → Plan → Type 0

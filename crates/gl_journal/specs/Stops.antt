@@ -35,8 +35,8 @@ OpensTo header bytes payload image =
     × ((payloads_of header image ≡ payloads_of header bytes)
     ⊎ (payloads_of header image ≡ with_last payload (payloads_of header bytes)))
 
--- An image that a stop might have left before a file was begun, or one with at most the nine bytes of
--- a header and a gate.
+-- An image that a stop might have left before a file was begun, or one with at most the nine bytes
+-- of a header and a gate.
 abbrev pub IsBegun : List Step → List ℕ → Type 0
 IsBegun past image = IsImage past image ⊎ (length image ≤ 9)
 

@@ -1,4 +1,4 @@
-use Rattle.std.proofs.Common.{Ok, ap}
+use Rattle.std.proofs.Common.{Ok, ap, rules}
 use Rattle.gl_audit.proofs.Steps.{of_taken}
 use Rattle.gl_audit.proofs.ledger_audit.audit.Goals as goal
 
@@ -7,3 +7,6 @@ returns-clause-verdict g c = of_taken _ c.verdict_at.result _ _ _ c.verdict_at.e
 
 pub returns-clause-ended : goal.returns-clause-ended
 returns-clause-ended g c = c.verdict_at.ensures.ended _ (λ is. c.in_ok-stop.ensures.ended (ap Ok is))
+
+pub returns-in_err-stop-clause-quiet : goal.returns-in_err-stop-clause-quiet
+returns-in_err-stop-clause-quiet g c none = c.take_entries.ensures.quiet (λ fault is. none fault (search (rules, is)))

@@ -180,7 +180,7 @@ module _ {S D L : Type 0} (r : Run S D) (link : LinkRun L) (source : r.source.af
   pub nothing_reports : (words : List Text) (kinds : Kinds) → asked words ≡ Err kinds → ReportsFault kinds r link endings.Memory
   nothing_reports words kinds is =
       let has = subst HasKind is (some_kind words) in
-      record { kind = has.0; among = has.1; exact = prefix (fault_line (Words has.0)); source = source; disk = record { same = disk; never = λ never. cc }; link = same }
+      record { kind = has.0; among = has.1; exact = prefix (fault_line (Words has.0)); source = source; disk = record { same = disk; never = λ never. cc }; link_same = same }
 
 -- what the words ask for is the command that they were read as
 pub as_asked : {S D L : Type 0} (r : Run S D) (link : LinkRun L) (e : Ending) (found : Result Asked Kinds) (own command : Asked) → found ≡ Ok own → found ≡ Ok command → Does own r link e → Does command r link e
@@ -197,7 +197,7 @@ pub told : {S D L : Type 0} (r : Run S D) (link : LinkRun L) (e : Ending) (found
     WritesOutput e r.sink (output_of_fault (Words kind)) → r.source.after ≡ r.source.before → r.disk.after ≡ r.disk.before → (e ≢ endings.DiskFailed) → link.after ≡ link.before → ReportsFault kinds r link e
 told r link e found kind kinds refuses is writes source disk never same =
     let one : refuses.0 ≡ kinds = let both : ◌≡◌ {A = Result Asked Kinds} (Err refuses.0) (Err kinds) = sym refuses.1 ∙ is in cc in
-    record { kind = kind; among = rw one at refuses.2; exact = writes; source = source; disk = record { same = disk; never = never }; link = same }
+    record { kind = kind; among = rw one at refuses.2; exact = writes; source = source; disk = record { same = disk; never = never }; link_same = same }
 
 pub none_asked : {A : Type 0} (found : Result Asked Kinds) (kind : ErrorKind) (command : Asked) → RefusesWords found (Refused kind) → found ≡ Ok command → A
 none_asked found kind command refuses asks = no_command found command refuses.0 asks refuses.1

@@ -50,4 +50,4 @@ pub record ReportsFault {S D L : Type 0} (kinds : Kinds) (r : Run S D) (link : L
   pub exact : WritesOutput e r.sink (output_of_fault (Words kind))
   pub source : IsUnread r.source
   pub disk : LeavesDisk r.disk e
-  pub link : link.after ≡ link.before
+  pub link_same : link.after ≡ link.before

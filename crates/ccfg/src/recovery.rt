@@ -40,6 +40,7 @@ fn unfounded_plan(fault: RecoveringFault) -> Result<Plan, PlanError>
     ensures playable { IfOk result (λ plan. PlansPlayable plan) }
     ensures disk_failed { result ≡ Err PlanError.DiskFailed → fault ≡ DiskFailed }
     ensures source_failed { result ≡ Err PlanError.SourceFailed → fault ≡ SourceFailed }
+    ensures source { fault ≡ SourceFailed → result ≡ Err PlanError.SourceFailed }
 {
     match fault {
         RecoveringFault::SourceFailed => Err(PlanError::SourceFailed),

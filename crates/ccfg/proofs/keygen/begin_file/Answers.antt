@@ -18,5 +18,5 @@ returns-in-Ok-create-clause-output g c =
 pub returns-in-Ok-create-clause-kept : goal.returns-in-Ok-create-clause-kept
 returns-in-Ok-create-clause-kept g c = λ honest image left.
     let file = c.in-Ok-create.file in
-    let here = subst (λ (d : g.D). IsImage (g.D.Disk.past d) image) c.into_disk.ensures left in
+    let here = subst (λ (d : g.row.D.Denot). IsImage (g.D.Disk.past d) image) c.into_disk.ensures left in
     (gated g.D.Disk.bytes g.D.Disk.past file.journal image (c.in-Ok-create.ensures.open honest).kept here, c.in-Ok-create.ensures.after honest image here)

@@ -2,6 +2,7 @@ use Rattle.std.proofs.Common.{refl, rules, ap}
 use Rattle.gl_store_book.specs.NodeFile.{opened}
 use Rattle.ccfg.proofs.Beginnings.{not_foreign}
 use Rattle.ccfg.proofs.NodeMoments.{later_moments}
+use Rattle.ccfg.specs.Run.{disk_run, link_run, sink_run, source_run}
 use Rattle.ccfg.proofs.NodeRuns.{keeps_same, serves_so, stops_so}
 use Rattle.ccfg.proofs.node.run_node.Goals as goal
 
@@ -9,7 +10,12 @@ pub returns-in-Ok-clause-runs : goal.returns-in-Ok-clause-runs
 returns-in-Ok-clause-runs g c =
     let h = c.serve_replica-end.ensures in
     let printed = c.print_end.ensures in
-    serves_so c.args.task.now _ _ c.serve_replica-end.result.0 c.print_end.result
+    serves_so c.args.task.now (record {
+      source = source_run g.S.Source.left g.S.Source.ended g.S.Source.faults c.args.source.now c.open.new.source;
+      sink = sink_run g.K.Sink.holds g.K.Sink.faults c.args.sink.now c.print_end.new.sink;
+      disk = disk_run g.D.Disk.honest g.D.Disk.bytes g.D.Disk.past g.D.Disk.faults c.args.disk c.serve_replica-end.result.1;
+    }) (link_run g.L.Link.honest g.L.Link.past g.L.Link.inward c.args.link.now c.serve_replica-end.new.link)
+    c.serve_replica-end.result.0 c.print_end.result
     (record { settings = _; asked = (c.as_slice.ensures, refl, refl); first = c.in-Ok.replica; begins = c.in-Ok.ensures.begins; last = h.serves.0; course = h.serves.2; disk = h.serves.1 })
     c.in-Ok.ensures.ended
     h.ended
@@ -26,7 +32,12 @@ pub returns-in-Err-clause-runs : goal.returns-in-Err-clause-runs
 returns-in-Err-clause-runs g c =
     let h = c.in-Err.ensures in
     let printed = c.print_stop.ensures in
-    stops_so c.args.task.now _ _ c.in-Err.stop c.print_stop.result refl
+    stops_so c.args.task.now (record {
+      source = source_run g.S.Source.left g.S.Source.ended g.S.Source.faults c.args.source.now c.open.new.source;
+      sink = sink_run g.K.Sink.holds g.K.Sink.faults c.args.sink.now c.print_stop.new.sink;
+      disk = disk_run g.D.Disk.honest g.D.Disk.bytes g.D.Disk.past g.D.Disk.faults c.args.disk c.in-Err.disk;
+    }) (link_run g.L.Link.honest g.L.Link.past g.L.Link.inward c.args.link.now c.args.link.now)
+    c.in-Err.stop c.print_stop.result refl
     (λ fault is. h.refused fault c.in-Err.disk (search (rules, is)))
     (λ is. h.source_failed c.in-Err.disk (search (rules, is)))
     (λ is. h.disk_failed c.in-Err.disk (search (rules, is)))

@@ -1,5 +1,6 @@
-use Rattle.std.proofs.Common.{Err, ap, ◌∙◌}
+use Rattle.std.proofs.Common.{◌≡◌, Err, ap, rules, ◌∙◌}
 use Rattle.gl_keyfile.specs.KeyFile.{disk_of}
+use Rattle.gl_recovery.specs.declared.recovering_fault.RecoveringFault.TheVariants.{SourceFailed}
 use Rattle.ccfg.specs.KeyFiles.{held}
 use Rattle.ccfg.proofs.RecoveringLemmas.{old_ended, old_printed, old_refused, old_untouched}
 use Rattle.ccfg.proofs.recovery.plan_with_node_key.Goals as goal
@@ -25,3 +26,7 @@ returns-in-Err-Fault-clause-ended g c =
     let fault = c.in-Err-Fault.fault in
     old_ended fault c.unfounded_plan.result _
     (c.recover-reported.ensures.read fault (c.in-Err-Fault.is ∙ ap Err c.in-Err-Fault.field-0-is)) c.unfounded_plan.ensures.read
+
+pub returns-in-Err-Fault-clause-quiet : goal.returns-in-Err-Fault-clause-quiet
+returns-in-Err-Fault-clause-quiet g c other =
+    c.recover-reported.ensures.quiet (λ is. let same : c.in-Err-Fault.fault ≡ SourceFailed = search (rules, is) in other (c.unfounded_plan.ensures.source same))

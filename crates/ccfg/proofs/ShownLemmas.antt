@@ -56,22 +56,6 @@ pub from_shown : (honest : Bool) (held : List ℕ) (P : Shown → Type 0) (Q : T
 from_shown true held P Q f p = f (shown_by held) p
 from_shown false held P Q f p = f p.0 p.1
 
-pub from_both : (honest : Bool) (held : List ℕ) (given : Option (List ℕ)) (P : Shown → List ℕ → Type 0) (Q : Type 0) → ((h : Shown) (g : List ℕ) → P h g → Q) → OfBoth honest held given P → Q
-from_both honest held given P Q f p = from_shown honest held (λ h. OfBytes given (λ g. P h g)) Q (λ h q. from_given given (P h) Q (f h) q) p
-
--- what holds where the source tells its bytes
-pub if_printed : (given : Option (List ℕ)) (P : List ℕ → Type 0) → OfBytes given P → IfSome given P
-if_printed None P p = tt
-if_printed (Some g) P p = p
-
-pub whatever_printed : (given : Option (List ℕ)) (P : List ℕ → Type 0) → ((g : List ℕ) → P g) → IfSome given P
-whatever_printed None P holds = tt
-whatever_printed (Some g) P holds = holds g
-
-pub some_map : (given : Option (List ℕ)) (P Q : List ℕ → Type 0) → ((g : List ℕ) → P g → Q g) → IfSome given P → IfSome given Q
-some_map None P Q f p = tt
-some_map (Some g) P Q f p = f g p
-
 -- what holds where a call succeeds, from what else does
 pub ok_map : {T E : Type 0} (r : Result T E) (P Q : T → Type 0) → ((t : T) → P t → Q t) → IfOk r P → IfOk r Q
 ok_map (Ok t) P Q f p = f t p

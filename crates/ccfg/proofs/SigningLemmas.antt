@@ -1,7 +1,6 @@
 -- What is owed where something is signed.
 use Rattle.std.proofs.Common.{◌≡◌, ◌<◌, ◌≤◌, inl, inr, ℕ, List, [], length, Option, Bool, true, false, Result, Ok, Err, IfOk, IsTrue, nat_lt, if◌then◌else◌, refl, sym, ap, subst, ◌∙◌, arith}
 use Rattle.std.proofs.lemmas.Bool.Decides.{nat_tests}
-use Rattle.gl_base.specs.declared.json.FormsFault.{FormsFault}
 use Rattle.gl_entry.specs.SourceBytes.{OfBytes}
 use Rattle.gl_base.specs.declared.or_no_memory.OrNoMemory.{OrNoMemory}
 use Rattle.gl_base.specs.declared.or_no_memory.OrNoMemory.TheVariants.{Fault as fault_of}
@@ -81,15 +80,6 @@ with_other_key kind owes state given other =
 pub with_own_key : (kind : KeyKind) (owes : Durable → List ℕ → Output) (state : Durable) (given : List ℕ) → state.key.kind ≡ kind → output_with_key kind owes (Ok state) given ≡ owes state given
 with_own_key kind owes state given own =
     ap (λ (b : Bool). if b then owes state given else output_of_fault (faults.KeyKind kind state.key.kind)) (is_own_kind kind state.key.kind own)
-
--- a fault of signing, and not of the form
-pub unsigned_output : (fault : SigningFault) → ((form : FormsFault) → fault ≡ signings.Form form → ⊥) → output_of_signed (Err fault) ≡ output_of_fault (faults.Signing fault)
-unsigned_output (signings.Form form) other = absurd (other form refl)
-unsigned_output (signings.NotFirstNode want got) other = refl
-unsigned_output (signings.KeyExhausted reserved) other = refl
-unsigned_output (signings.BadAction index cause) other = refl
-unsigned_output signings.Signature other = refl
-unsigned_output signings.DiskFailed other = refl
 
 -- bytes that aren't signed
 pub unsigned_text : (signing : Signing) (state : Durable) (text : List ℕ) (fault : SigningFault) (r : Result Plan PlanError) → length text ≤ json_limit → ((fault ≡ signings.DiskFailed → ⊥) → expected_output signing state text ≡ Err fault) →

@@ -241,12 +241,11 @@ fn put_numbered(
 
 /// An open gate, the length of a batch, and its one record, which appends this frame.
 fn put_append(out: &mut Vec<u8>, frame: &[u8]) -> Result<(), AllocError> {
-    let len = frame.len() as u32;
+    let len = u32::try_from(frame.len()).unwrap_or(0);
     out.push(1)?;
     out.extend_from_slice(&len.saturating_add(5).to_le_bytes())?;
     out.push(4)?;
-    out.extend_from_slice(&len.to_le_bytes())?;
-    out.extend_from_slice(frame)
+    put_sized(out, frame)
 }
 
 fn put_world(out: &mut Vec<u8>, settings: &str) -> Result<(), AllocError> {

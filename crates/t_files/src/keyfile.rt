@@ -280,9 +280,11 @@ fn a_fault_while_a_file_is_opened_is_printed(rt: HostRuntime) -> Result<(), Fail
     for number in 1..5 {
         let failing = [number];
         let disk = MemDisk::new(SureDisk::holding(alloc, &begun.bytes)?, &failing);
-        if let Err((error, disk)) =
-            KeyFile::<MemDisk<'_>, FrameLog>::open(alloc, disk, KeyKind::Member)
-        {
+        if let Err((error, disk)) = KeyFile::<MemDisk<'_>, FrameLog>::open(
+            alloc,
+            disk,
+            KeyKind::Member,
+        ) {
             assert_eq!(rt; (error, disk.faults()), (DISK_FAULT, 1));
             faults = faults.saturating_add(1);
         }

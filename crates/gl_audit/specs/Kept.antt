@@ -4,7 +4,7 @@ use Rattle.gl_base.specs.TxId.{last_seqno}
 use Rattle.gl_base.specs.declared.or_no_memory.OrNoMemory.{OrNoMemory}
 use Rattle.gl_base.specs.declared.or_no_memory.OrNoMemory.TheVariants.{NoMemory, Fault}
 use Rattle.gl_merkle.specs.Frontier as frontiers
-use Rattle.gl_vmaps.specs.Standing.{StandsFor}
+use Rattle.gl_vmaps.specs.Standing.{StandsFor, HasCompacted}
 use Rattle.gl_entry.specs.Entry.{is_signature, recorded_commit}
 use Rattle.gl_entry.specs.declared.entry.Entry.{Entry}
 use Rattle.gl_ledger.specs.ServiceRow.{service_state, identity_in}
@@ -71,6 +71,17 @@ pub record IsWhole (s : LedgerState) : Type 0 where
   pub tables : s.tables.compacted ≡ 0
   pub base : s.frontier.base ≡ 0
   pub peaks : s.frontier.peaks ≡ []
+
+-- Of the tables up to a place each row has its last version alone, and of the tree no leaf is kept:
+-- it is known by its peaks.
+pub record IsSettled (len : ℕ) (old new : LedgerState) : Type 0 where
+  pub tables : HasCompacted old.tables len new.tables
+  pub leaves : new.frontier.leaves ≡ []
+
+-- It is the state of the ledger, settled at its end.
+abbrev pub IsSettledStateOf : List Entry → LedgerState → Type 0
+IsSettledStateOf ledger s =
+    (full : LedgerState) × IsStateOf ledger full × IsSettled (length ledger) full s
 
 -- An entry is refused for the first rule that it breaks.
 abbrev pub Breaks : Option Broken → OrNoMemory Broken → Type 0

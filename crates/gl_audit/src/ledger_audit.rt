@@ -1,13 +1,14 @@
 //! The audit of a ledger, entry by entry.
 
-ghost use Rattle.std.specs.Prelude.{◌≡◌, ◌≢◌, ◌+◌, length, ◌≤◌, [], Bool, true, Err, Ok, IfOk};
+ghost use Rattle.std.specs.Prelude.{◌≡◌, ◌≢◌, ◌+◌, length, ◌≤◌, [], ◌∷◌, ◌++◌, Bool, true, Err, None, Ok, IfOk};
 ghost use Rattle.gl_base.specs.declared.or_no_memory.OrNoMemory.TheVariants.{Fault};
 ghost use Rattle.gl_outside.specs.Fault.{Rose};
 ghost use Rattle.gl_ledger.specs.Recordings.{last_entry};
 ghost use Rattle.gl_entry.specs.SourceBytes.{OfBytes};
+ghost use Rattle.gl_entry.specs.Entry.{is_signature};
 ghost use Rattle.gl_entry.specs.LedgerFile.{LedgerFile};
 ghost use Rattle.gl_entry.specs.declared.next.ReadFault.{ReadFault as ReadFaults};
-ghost use Rattle.gl_audit.specs.Kept.{ForLedgers, IsState, IsStateOf};
+ghost use Rattle.gl_audit.specs.Kept.{ForLedgers, IsSettledStateOf, IsState, IsStateOf};
 ghost use Rattle.gl_audit.specs.AuditSteps.{Ends, EndsAt, Takes};
 ghost use Rattle.gl_audit.specs.Verdict.{EndsWith, judged, verdict, verdict_of};
 
@@ -34,8 +35,11 @@ enum Stop {
 /// state is settled, so that it holds no more than the tables and what came since.
 fn take_entry(state: &mut LedgerState, entry: &Entry) -> Result<Option<u8>, AllocError>
     requires { IsState state.old }
-    ensures { IfOk result (λ rule. ForLedgers state.old (λ before.
+    ensures taken { IfOk result (λ rule. ForLedgers state.old (λ before.
         Takes before entry.now rule state.new)) }
+    ensures settled { result ≡ Ok None → is_signature entry.now.content ≡ true →
+        ForLedgers state.old (λ before.
+        IsSettledStateOf (before ++ entry.now ∷ []) state.new) }
 {
     match state.apply(entry) {
         Ok(()) => {

@@ -17,7 +17,7 @@ ghost use Rattle.gl_ledger.specs.Broken.{broken};
 ghost use Rattle.gl_ledger.specs.NodeKeys.{service_layers};
 ghost use Rattle.gl_entry.specs.declared.entry.Entry.{Entry};
 ghost use Rattle.gl_audit.specs.Kept.{Breaks};
-ghost use Rattle.gl_audit.specs.Kept.{seqno_if, key_of, IsStateOf, IsState, ForLedgers, IsWhole};
+ghost use Rattle.gl_audit.specs.Kept.{seqno_if, key_of, IsStateOf, IsState, ForLedgers, IsWhole, IsSettled};
 ghost use Rattle.gl_audit.specs.Ends.{IsRead, no_end, end_of, end_with};
 
 use crate::gov_state::GovState;
@@ -207,7 +207,7 @@ impl LedgerState {
     }
 
     /// Makes room for the leaves of so many more entries.
-    pub fn reserve(&mut self, more: usize) -> Result<(), AllocError>
+    fn reserve(&mut self, more: usize) -> Result<(), AllocError>
         ensures signatures { OnOk result
             (vec_len self.new.signatures + more ≤ vec_capacity self.new.signatures) }
         ensures frontier { OnOk result (more ≤ self.new.frontier.spare) }
@@ -353,7 +353,9 @@ impl LedgerState {
     /// one, and the leaves of the tree but for the roots of its complete subtrees. Fails only where
     /// memory runs out.
     pub fn settle(&mut self) -> Result<(), AllocError>
-        ensures { ForLedgers self.old (λ ledger. IsStateOf ledger self.new) }
+        ensures state { ForLedgers self.old (λ ledger. IsStateOf ledger self.new) }
+        ensures settled { OnOk result (ForLedgers self.old (λ ledger.
+            IsSettled (length ledger) self.old self.new)) }
     {
         let len = self.frontier.len();
         let peaks = self.frontier.peaks(len)?;

@@ -2,7 +2,6 @@ pub mod AnswerLaws
 pub mod AppendLaws
 pub mod Appending
 pub mod ClientLaws
-pub mod CodecLaws
 pub mod FieldLaws
 pub mod MessageLaws
 pub mod StreamLaws

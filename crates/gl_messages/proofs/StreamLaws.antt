@@ -208,12 +208,11 @@ headed_short xs bytes len there within few =
     let short : nat_lt (length bytes) len ≡ true = grind (arith, nat_tests) in
     there.is ∙ rw (not_long, short) refl
 
-pub headed_whole : (xs bytes : List ℕ) (len : ℕ) → Headed xs bytes len → len ≤ frame_limit → len ≤ length bytes → IsNoFrame (prefix xs) → ⊥
-headed_whole xs bytes len there within enough none =
+pub headed_whole : (xs bytes : List ℕ) (len : ℕ) → Headed xs bytes len → len ≤ frame_limit → len ≤ length bytes → prefix xs ≡ whole (take len bytes) (drop len bytes)
+headed_whole xs bytes len there within enough =
     let not_long : nat_lt frame_limit len ≡ false = grind (arith, nat_tests) in
     let not_short : nat_lt (length bytes) len ≡ false = grind (arith, nat_tests) in
-    let is : prefix xs ≡ whole (take len bytes) (drop len bytes) = there.is ∙ rw (not_long, not_short) refl in
-    subst IsNoFrame is none
+    there.is ∙ rw (not_long, not_short) refl
 
 after_whole : (payload more : List ℕ) → length payload ≤ frame_limit → after_length (length payload) (payload ++ more) ≡ whole payload more
 after_whole payload more within =

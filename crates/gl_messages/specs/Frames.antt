@@ -36,14 +36,14 @@ prefix (a ∷ b ∷ c ∷ d ∷ bytes) = after_length (((a * 256 + b) * 256 + c)
 prefix stream = unfinished
 
 -- A call gave what stands at the start of the bytes that were kept, and took a whole frame from
--- them. Where it gave no payload the bytes are as they were, unless memory ran out.
+-- them. Where it gave no payload the bytes are as they were.
 abbrev pub GivesPrefix : {X : Type 0} → (X → List ℕ) → List ℕ
     → Result (Option X) (OrNoMemory FrameFault) → List ℕ → Type 0
 GivesPrefix payload old (Ok (Some x)) new = prefix old ≡ whole (payload x) new
 GivesPrefix payload old (Ok None) new = (prefix old ≡ unfinished) × (new ≡ old)
 GivesPrefix payload old (Err (errors.Fault (FrameTooLong len))) new =
     (prefix old ≡ too_long len) × (new ≡ old)
-GivesPrefix payload old (Err errors.NoMemory) new = Unit {0}
+GivesPrefix payload old (Err errors.NoMemory) new = new ≡ old
 
 -- A stream in whole
 

@@ -1,6 +1,5 @@
 pub mod Answer
 pub mod Client
-pub mod Codec
 pub mod Fields
 pub mod Frames
 pub mod Message

@@ -276,16 +276,6 @@ impl Store {
         self.commit = seqno;
     }
 
-    /// Makes room for so many more entries and for their leaves; what they write takes memory of
-    /// its own. Fails only where memory runs out.
-    pub fn reserve(&mut self, more: usize) -> Result<(), AllocError>
-        ensures { self.new ≡ self.old }
-    {
-        self.state.reserve(more)?;
-        self.entries.reserve(more)?;
-        Ok(())
-    }
-
     /// Adds an entry that breaks no rule. Running out of memory leaves the store as it was.
     fn push(&mut self, entry: Entry) -> Result<(), AllocError>
         requires { broken service_layers self.old.ledger entry ≡ None }

@@ -5,18 +5,18 @@ use Rattle.gl_audit.proofs.ledger_audit.take_entries.Goals as goal
 pub returns-in-Some-clause-ends : goal.returns-in-Some-clause-ends
 returns-in-Some-clause-ends g c =
     let at = c.loop-kept.invariant.at in
-    ends_broken_at _ _ _ _ _ _ c.in-Entry.entry _ c.in-Some.rule at c.in-Entry.is c.in_ok-entry.ensures.next c.in-Some.is (c.in_ok-rule-in-Entry.ensures at.ledger at.stands)
+    ends_broken_at _ _ _ _ _ _ c.in-Entry.entry _ c.in-Some.rule at c.in-Entry.is c.in_ok-entry.ensures.next c.in-Some.is (c.in_ok-rule-in-Entry.ensures.taken at.ledger at.stands)
 
 pub loop-kept-smaller : goal.loop-kept-smaller
 loop-kept-smaller g c =
     let at = c.loop-kept.invariant.at in
-    smaller_at _ _ _ _ c.in-Entry.entry _ at c.in_default.is (c.in_ok-rule-in-Entry.ensures at.ledger at.stands)
+    smaller_at _ _ _ _ c.in-Entry.entry _ at c.in_default.is (c.in_ok-rule-in-Entry.ensures.taken at.ledger at.stands)
 
 pub loop-kept-preserved : goal.loop-kept-preserved
 loop-kept-preserved g c =
     let at = c.loop-kept.invariant.at in
     record {
-      at = goes_on_at _ _ _ _ _ _ c.in-Entry.entry _ at c.in-Entry.is c.in_ok-entry.ensures.next c.in_default.is (c.in_ok-rule-in-Entry.ensures at.ledger at.stands);
+      at = goes_on_at _ _ _ _ _ _ c.in-Entry.entry _ at c.in-Entry.is c.in_ok-entry.ensures.next c.in_default.is (c.in_ok-rule-in-Entry.ensures.taken at.ledger at.stands);
       quiet = search rules;
     }
 

@@ -1,4 +1,6 @@
-use Rattle.std.proofs.Common.{◌≡◌, ◌<◌, length, refl, ap, ◌∙◌, arith}
+use Rattle.std.proofs.Common.{◌≡◌, ◌+◌, ◌<◌, drop, length, refl, sym, ap, ap₂, ◌∙◌, arith}
+use Rattle.std.proofs.lemmas.List.{drop-drop}
+use Rattle.gl_messages.specs.Frames.{whole}
 use Rattle.gl_messages.proofs.StreamLaws.{headed, headed_long, headed_short, headed_whole, prefix_short}
 use Rattle.gl_messages.proofs.frames.Frames.next.Goals as goal
 
@@ -18,7 +20,12 @@ returns-then-suffix-len-clause-given c =
     let there = headed c.args.self.now c.as_slice.result.now c.in-Some.head.now c.in-Some.suffix.now c.from_be_bytes-len.result (c.as_slice.ensures ∙ c.self.view_is) c.in-Some.ensures.cases c.from_be_bytes-len.ensures in
     (headed_short c.args.self.now c.in-Some.suffix.now c.from_be_bytes-len.result there (omega (arith, c.if-len-gt-FRAME_LIMIT.false)) (omega (arith, c.if-suffix-len.true)), refl)
 
-pub take-requires : goal.take-requires
-take-requires c =
-    let there = headed c.args.self.now c.as_slice.result.now c.in-Some.head.now c.in-Some.suffix.now c.from_be_bytes-len.result (c.as_slice.ensures ∙ c.self.view_is) c.in-Some.ensures.cases c.from_be_bytes-len.ensures in
-    headed_whole c.args.self.now c.in-Some.suffix.now c.from_be_bytes-len.result there (omega (arith, c.if-len-gt-FRAME_LIMIT.false)) (omega (arith, c.if-suffix-len.false))
+pub returns-clause-given : goal.returns-clause-given
+returns-clause-given c =
+    let slice = c.as_slice.result.now in
+    let len = c.from_be_bytes-len.result in
+    let there = headed c.args.self.now slice c.in-Some.head.now c.in-Some.suffix.now len (c.as_slice.ensures ∙ c.self.view_is) c.in-Some.ensures.cases c.from_be_bytes-len.ensures in
+    let left : drop len c.in-Some.suffix.now ≡ c.advance.new.self.items =
+    ap (drop len) c.in-Some.ensures.cases.1 ∙ drop-drop len 4 slice ∙ ap (drop (4 + len)) c.as_slice.ensures ∙ sym c.advance.ensures.items in
+    headed_whole c.args.self.now c.in-Some.suffix.now len there (omega (arith, c.if-len-gt-FRAME_LIMIT.false)) (omega (arith, c.if-suffix-len.false))
+    ∙ ap₂ whole (sym c.in_ok-payload.ensures.items) left

@@ -3,7 +3,8 @@ use Rattle.std.proofs.Common.{◌≡◌, inl, ℕ, List, Result, Ok, OnOk, sym, 
 use Rattle.gl_outside.specs.Disk.{Step, Leaves}
 use Rattle.gl_outside.proofs.Moments.{started, stayed}
 use Rattle.gl_journal.specs.Stops.{IsSettled}
-use Rattle.gl_journal.specs.Kept.{IsKept}
+use Rattle.gl_journal.specs.Kept.{IsAtRest, IsKept}
+use Rattle.gl_journal.specs.Parts.{HasGate}
 use Rattle.gl_journal.specs.Durable.{Durable, GoesOn, durable, journal_header, OpensToOneOf}
 use Rattle.gl_journal.specs.declared.journal.Journal.{Journal}
 use Rattle.gl_journal.proofs.Appending.{settled_gate}
@@ -20,6 +21,15 @@ pub none_done : {D : Type 0} (goes_on : GoesOn) (bytes : D → List ℕ) (past :
 none_done goes_on bytes past journal after state next kept is same =
     settled_here goes_on journal.gated.place (bytes journal.gated.disk) (past journal.gated.disk) after state next
     (subst (λ (header : List ℕ). IsSettled header journal.gated.place (bytes journal.gated.disk) (past journal.gated.disk)) kept.header kept.settled) is same
+
+-- a settled journal is at rest
+pub at_rest : {D : Type 0} (bytes : D → List ℕ) (past : D → List Step) (journal : Journal D) → IsKept bytes past journal → IsAtRest (bytes journal.gated.disk) (past journal.gated.disk)
+at_rest bytes past journal kept =
+    let disk = journal.gated.disk in
+    record {
+      gate = subst (λ (header : List ℕ). HasGate header (bytes disk)) kept.header (settled_gate journal.gated.header journal.gated.place (bytes disk) (past disk) kept.settled);
+      only = kept.settled.kept;
+    }
 
 -- what holds where a call succeeds, and it did
 pub of_ok : {T E A : Type 0} (result : Result T E) (value : T) → result ≡ Ok value → OnOk result A → A

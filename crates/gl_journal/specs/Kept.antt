@@ -1,6 +1,7 @@
 -- A journal whose file is kept, and its room.
 use Rattle.std.specs.Prelude.{◌≡◌, ℕ, ◌+◌, ◌≤◌, List, vec_capacity}
-use Rattle.gl_outside.specs.Disk.{Step}
+use Rattle.gl_outside.specs.Disk.{LeavesOnly, Step}
+use Rattle.gl_journal.specs.Parts.{HasGate}
 use Rattle.gl_journal.specs.Stops.{IsOpen, HasPayloadRoom}
 use Rattle.gl_journal.specs.Durable.{journal_header}
 use Rattle.gl_journal.specs.declared.journal.Journal.{Journal}
@@ -11,6 +12,11 @@ pub record IsKept {D : Type 0} (bytes : D → List ℕ) (past : D → List Step)
     : Type 0 where
   pub header : journal.gated.header ≡ journal_header
   pub settled : IsOpen bytes past journal.gated
+
+-- The bytes have their closed gate, and a stop leaves them and no others.
+pub record IsAtRest (bytes : List ℕ) (past : List Step) : Type 0 where
+  pub gate : HasGate journal_header bytes
+  pub only : LeavesOnly past bytes
 
 -- There is memory for a batch of so many bytes, with its length and a gate, over a disk with this
 -- room.

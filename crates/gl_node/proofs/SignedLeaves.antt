@@ -51,7 +51,7 @@ pub record Signs (n m : Node Entry) (leaves : List ℕ) : Type 0 where
   pub within : m.used ≤ m.reserved
   pub leaf : ((leaves ≡ []) × (n.used ≤ m.used)) ⊎ ((leaves ≡ n.used ∷ []) × (n.used < m.used) × (n.used < n.reserved))
 
-abbrev Above : ℕ → List ℕ → Type 0
+abbrev pub Above : ℕ → List ℕ → Type 0
 Above used leaves = AllPairs (λ leaf later. leaf < later) leaves × All (λ leaf. used ≤ leaf) leaves
 
 all_pairs_cons : (u : ℕ) (later : List ℕ) → All (λ leaf. u < leaf) later → AllPairs (λ leaf next. leaf < next) later → AllPairs (λ leaf next. leaf < next) (u ∷ later)
@@ -60,7 +60,7 @@ all_pairs_cons u later above pairs zero (suc j) d i within = above j d (omega (a
 all_pairs_cons u later above pairs (suc i) zero d below within = absurd (omega (arith, below))
 all_pairs_cons u later above pairs (suc i) (suc j) d below within = pairs i j d (omega (arith, below)) (omega (arith, within))
 
-more : (n m : Node Entry) (leaves later : List ℕ) → Signs n m leaves → Above m.used later → Above n.used (leaves ++ later)
+pub more : (n m : Node Entry) (leaves later : List ℕ) → Signs n m leaves → Above m.used later → Above n.used (leaves ++ later)
 more n m leaves later s above = go s.leaf
   where
     go : ((leaves ≡ []) × (n.used ≤ m.used)) ⊎ ((leaves ≡ n.used ∷ []) × (n.used < m.used) × (n.used < n.reserved)) → Above n.used (leaves ++ later)

@@ -1,9 +1,10 @@
 //! A node that serves from a file.
 
 ghost use Rattle.std.specs.Prelude.{◌≡◌, ◌↔◌, ℕ, List, true, None, Some, Ok, Err, IsTrue, IsSome, IfOk, OnOk};
-ghost use Rattle.gl_outside.specs.Disk.{IsImage, Leaves, LeavesOnly};
+ghost use Rattle.gl_outside.specs.Disk.{IsImage, Leaves};
 ghost use Rattle.gl_outside.specs.Fault.{Rose};
 ghost use Rattle.gl_journal.specs.Durable.{Durable as State, durable, OpensToOneOf};
+ghost use Rattle.gl_journal.specs.Kept.{IsAtRest};
 ghost use Rattle.gl_replication.specs.Events.{has_few_entries, rule_of};
 ghost use Rattle.gl_replication.specs.Stands.{KeepsAll, Refuses, Reports, Steps};
 ghost use Rattle.gl_node.specs.Answers.{OnRefusal, stopped_by, stopped_count};
@@ -133,8 +134,8 @@ impl<D: Disk, B: KeptBook> Replica<D, B> {
         ensures disk { result.now ≡ self.now.disk }
         ensures keeps { IsTrue D.honest → self.now.stopped ≡ None →
             OpensToCore B.ledger B.goes_on (D.bytes self.now.disk) self.now.core }
-        ensures only { IsTrue D.honest → self.now.stopped ≡ None →
-            LeavesOnly (D.past self.now.disk) (D.bytes self.now.disk) }
+        ensures at_rest { IsTrue D.honest → self.now.stopped ≡ None →
+            IsAtRest (D.bytes self.now.disk) (D.past self.now.disk) }
     {
         &self.journal.gated.disk
     }

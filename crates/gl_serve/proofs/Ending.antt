@@ -4,10 +4,12 @@ use Rattle.gl_entry.specs.declared.entry.Entry.{Entry}
 use Rattle.gl_rules.specs.Identity.{NodeId}
 use Rattle.gl_rules.specs.Node.{Node}
 use Rattle.gl_ledger.specs.LedgerBook.{ServiceBook}
-use Rattle.gl_outside.specs.Disk.{Leaves, LeavesOnly, Step}
+use Rattle.gl_outside.specs.Disk.{Leaves, Step}
 use Rattle.gl_outside.specs.Fault.{Rose}
 use Rattle.gl_outside.proofs.Moments.{so_too}
-use Rattle.gl_journal.specs.Durable.{Durable, GoesOn, durable}
+use Rattle.gl_journal.specs.Durable.{Durable, GoesOn, durable, journal_header}
+use Rattle.gl_journal.specs.Kept.{IsAtRest}
+use Rattle.gl_journal.specs.Parts.{HasGate}
 use Rattle.gl_journal.specs.declared.fault.JournalFault.{JournalFault}
 use Rattle.gl_replication.specs.Events.{rule_of}
 use Rattle.gl_replication.specs.declared.event.Event.TheVariants as events
@@ -190,16 +192,16 @@ module _ {D S : Type 0} (stands : S → ServiceBook → Holding Entry → Type 0
 
   -- whatever it came to, its file has the same key and no fewer spent leaves
   pub serve_keeps : (ledger : S → List Entry) (reported : Bool) (settings : Serving) (first last : NodeSeen D S) (before after : List Exchange) (ahead left : List Arrival) (result : Result (ℕ × ℕ) ServeEnd) →
-      Serves reported (serving_rules stands goes_on honest bytes past faults) settings first before ahead last after left result → IsTrue honest → StandsForSome stands first.core → OpensToCore ledger goes_on (bytes first.disk) first.core → LeavesOnly (past first.disk) (bytes first.disk) →
+      Serves reported (serving_rules stands goes_on honest bytes past faults) settings first before ahead last after left result → IsTrue honest → StandsForSome stands first.core → OpensToCore ledger goes_on (bytes first.disk) first.core → IsAtRest (bytes first.disk) (past first.disk) →
       (d : Durable) → durable goes_on (bytes first.disk) ≡ Ok d → Leaves (KeepsLeaves goes_on d) (past first.disk) (past last.disk)
-  serve_keeps ledger reported settings first last before after ahead left result s true_disk some file only d opens =
+  serve_keeps ledger reported settings first last before after ahead left result s true_disk some file rest d opens =
       let life = serve_lives stands goes_on honest bytes past faults settings reported _ _ _ _ result s.went in
       let n = some.node in
       let same : d.reserved ≡ n.reserved = held_reserved d file.0 (sym opens ∙ file.1) ∙ file.2.reserved ∙ ap (λ (m : Node Entry). m.reserved) some.standing.same in
       let kept = life_is_kept stands goes_on honest bytes past faults true_disk some.rules some.me first last life.0 life.1 n some.standing d opens in
-      so_too (λ (image : List ℕ). (state : Durable) × MayKeep some.rules some.me n d life.0 state × (durable goes_on image ≡ Ok state)) (KeepsLeaves goes_on d) (past first.disk) (past last.disk)
-      (λ image may. let k = leaves_kept some.rules some.me life.0 first last n d may.0 life.1 some.standing same may.1 in (may.0, may.2, k.0, k.1))
-      (kept.any_moment only)
+      so_too (λ (image : List ℕ). HasGate journal_header image × (state : Durable) × MayKeep some.rules some.me n d life.0 state × (durable goes_on image ≡ Ok state)) (KeepsLeaves goes_on d) (past first.disk) (past last.disk)
+      (λ image may. let k = leaves_kept some.rules some.me life.0 first last n d may.1 life.1 some.standing same may.2 in (may.0, may.1, may.3, k.0, k.1))
+      (kept.any_moment rest)
     where
       held_reserved : (d e : Durable) → ◌≡◌ {A = Result Durable JournalFault} (Ok d) (Ok e) → d.reserved ≡ e.reserved
       held_reserved d e is = ap (λ (x : Durable). x.reserved) (inner d e is)

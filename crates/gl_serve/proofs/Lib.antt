@@ -14,3 +14,4 @@ pub mod Living
 pub mod NoEntries
 pub mod SentMessages
 pub mod Ending
+pub mod Telling

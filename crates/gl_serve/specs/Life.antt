@@ -5,14 +5,16 @@ use Rattle.gl_entry.specs.declared.entry.Entry.{Entry}
 use Rattle.gl_rules.specs.Identity.{NodeId}
 use Rattle.gl_rules.specs.Node.{Node}
 use Rattle.gl_ledger.specs.LedgerBook.{ServiceBook}
-use Rattle.gl_outside.specs.Disk.{Leaves, LeavesOnly, Step}
+use Rattle.gl_outside.specs.Disk.{IsImage, Leaves, Step}
 use Rattle.gl_outside.specs.Link.{Arrival, Exchange}
-use Rattle.gl_journal.specs.Durable.{Durable, GoesOn, durable}
+use Rattle.gl_journal.specs.Durable.{Durable, GoesOn, durable, journal_header}
+use Rattle.gl_journal.specs.Kept.{IsAtRest}
+use Rattle.gl_journal.specs.Parts.{HasGate}
 use Rattle.gl_replication.specs.Events.{rule_of}
 use Rattle.gl_replication.specs.Holding.{Holding}
 use Rattle.gl_replication.specs.Stands.{Reports, StandsFor}
 use Rattle.gl_node.specs.Kept.{kept_after}
-use Rattle.gl_node.specs.Leaves.{Served, Lost, leaves_through}
+use Rattle.gl_node.specs.Leaves.{Served, Lost, leaf_of, leaves_through}
 use Rattle.gl_node.specs.declared.fault.NodeFault.TheVariants.{Refused, DiskFault, Stopped}
 use Rattle.gl_serve.specs.Serves.{Serves}
 use Rattle.gl_serve.specs.declared.settings.Serving.{Serving}
@@ -66,6 +68,18 @@ module _ {S : Type 0} where
       let m = node_after b x n lived.event lived.result in
       kept_through b x m (kept_upto d m lived.result) more
 
+  -- The leaves of the signatures that were told: those of events that were done.
+  abbrev pub told_in : ServiceBook → NodeId → Node Entry → NodeEvent S →
+      Result (NodeDone S) (NodeFaults S) → List ℕ
+  told_in b x n event (Ok done) = leaf_of b x n event
+  told_in b x n event (Err why) = []
+
+  abbrev pub told_through : ServiceBook → NodeId → Node Entry → List (Lived S) → List ℕ
+  told_through b x n [] = []
+  told_through b x n (lived ∷ more) =
+      told_in b x n lived.event lived.result
+      ++ told_through b x (node_after b x n lived.event lived.result) more
+
   -- The file may keep this before one of the events, or after the last.
   abbrev pub MayKeep : ServiceBook → NodeId → Node Entry → Durable → List (Lived S) → Durable →
       Type 0
@@ -111,14 +125,14 @@ module _ {D S : Type 0} (stands : S → ServiceBook → Holding Entry → Type 0
       (first last : NodeSeen D S) (life : List (Lived S)) → Lives first life last →
       Reports stands first.core (IsLife first life last)
 
-  -- Of a file that held this before, and nothing else at a stop: at every moment since then a stop
-  -- leaves what it keeps before one of the events or after the last. In the end it keeps what the
+  -- Of a file at rest that held this: at every moment since then a stop leaves, with its closed
+  -- gate, what it keeps before one of the events or after the last. In the end it keeps what the
   -- events made of it, unless the disk failed.
   pub record IsKeptThrough (first : NodeSeen D S) (life : List (Lived S)) (last : NodeSeen D S)
       (b : ServiceBook) (x : NodeId) (n : Node Entry) (d : Durable) : Type 0 where
-    pub any_moment : LeavesOnly (past first.disk) (bytes first.disk) →
-        Leaves (λ image. (state : Durable) × MayKeep b x n d life state
-        × (durable goes_on image ≡ Ok state))
+    pub any_moment : IsAtRest (bytes first.disk) (past first.disk) →
+        Leaves (λ image. HasGate journal_header image
+        × (state : Durable) × MayKeep b x n d life state × (durable goes_on image ≡ Ok state))
         (past first.disk) (past last.disk)
     pub kept : last.stopped ≡ None →
         durable goes_on (bytes last.disk) ≡ Ok (kept_through b x n d life)
@@ -129,3 +143,23 @@ module _ {D S : Type 0} (stands : S → ServiceBook → Holding Entry → Type 0
       IsTrue honest → (first last : NodeSeen D S) (life : List (Lived S)) → Lives first life last →
       Reports stands first.core (λ b x n. (d : Durable) →
       durable goes_on (bytes first.disk) ≡ Ok d → IsKeptThrough first life last b x n d)
+
+  -- Each leaf that was told is above those before it, and was not used before. In whatever a stop
+  -- leaves then, it is spent.
+  pub record IsTold (first : NodeSeen D S) (life : List (Lived S)) (last : NodeSeen D S)
+      (b : ServiceBook) (x : NodeId) (n : Node Entry) : Type 0 where
+    pub once : AllPairs (λ leaf later. leaf < later) (told_through b x n life)
+    pub unused : All (λ leaf. n.used ≤ leaf) (told_through b x n life)
+    pub spent : (image : List ℕ) → IsImage (past last.disk) image →
+        (state : Durable) × (durable goes_on image ≡ Ok state)
+        × All (λ leaf. leaf < state.reserved) (told_through b x n life)
+
+  -- So it is over an honest disk with a file at rest, of each node whose reserved leaves the file
+  -- held.
+  abbrev pub SpendsBeforeTelling : Type 0
+  SpendsBeforeTelling =
+      IsTrue honest → (first last : NodeSeen D S) (life : List (Lived S)) → Lives first life last →
+      IsAtRest (bytes first.disk) (past first.disk) →
+      Reports stands first.core (λ b x n. (d : Durable) →
+      durable goes_on (bytes first.disk) ≡ Ok d → d.reserved ≡ n.reserved →
+      IsTold first life last b x n)

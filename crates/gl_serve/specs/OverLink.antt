@@ -1,9 +1,12 @@
 -- What a serve leaves of its node's file.
 use Rattle.std.specs.Prelude.{◌≡◌, ◌≤◌, ℕ, List, Ok}
-use Rattle.gl_journal.specs.Durable.{Durable, GoesOn, durable}
+use Rattle.gl_journal.specs.Durable.{Durable, GoesOn, durable, journal_header}
+use Rattle.gl_journal.specs.Parts.{HasGate}
 
--- An image opens to a state with the same key, and with no fewer spent leaves.
+-- An image has its closed gate, and opens to a state with the same key, and with no fewer spent
+-- leaves.
 abbrev pub KeepsLeaves : GoesOn → Durable → List ℕ → Type 0
 KeepsLeaves goes_on d image =
-    (now : Durable) × (durable goes_on image ≡ Ok now) × (now.key ≡ d.key)
+    HasGate journal_header image
+    × (now : Durable) × (durable goes_on image ≡ Ok now) × (now.key ≡ d.key)
     × (d.reserved ≤ now.reserved)

@@ -1,6 +1,6 @@
 //! What a serve is to its node: laws, and no code.
 
-ghost use Rattle.gl_serve.specs.Life.{KeepsThrough, ServesByEvents, SignsOnce};
+ghost use Rattle.gl_serve.specs.Life.{KeepsThrough, ServesByEvents, SignsOnce, SpendsBeforeTelling};
 
 use gl_answers::ClientBook;
 use gl_node::KeptBook;
@@ -20,4 +20,9 @@ pub fn no_leaf_signs_twice_in_a_serve<D: Disk, B: KeptBook + ClientBook>()
 /// after the last.
 pub fn a_stop_leaves_what_an_event_kept<D: Disk, B: KeptBook + ClientBook>()
     ensures { KeepsThrough B.stands B.goes_on D.honest D.bytes D.past D.faults }
+{}
+
+/// A leaf is spent in the file before a signature by it is told, and none is told twice.
+pub fn a_leaf_is_spent_before_it_is_told<D: Disk, B: KeptBook + ClientBook>()
+    ensures { SpendsBeforeTelling B.stands B.goes_on D.honest D.bytes D.past D.faults }
 {}

@@ -23,7 +23,8 @@ mod streams;
 mod work;
 
 pub use laws::{
-    a_serve_is_events_of_its_node, a_stop_leaves_what_an_event_kept, no_leaf_signs_twice_in_a_serve,
+    a_leaf_is_spent_before_it_is_told, a_serve_is_events_of_its_node,
+    a_stop_leaves_what_an_event_kept, no_leaf_signs_twice_in_a_serve,
 };
 pub use node::{Outcome, OwnEvent, ServedNode};
 pub use observer::{NodeStatus, Observer};

@@ -37,7 +37,8 @@ pub fn serve_replica<L: Link, D: Disk, B: KeptBook + ClientBook, O: Observer>(
         replica (L.past link.old) (L.inward link.old).coming
         last (L.past link.new) (L.inward link.new).coming result.0 }
 
-    // At every moment a stop leaves a file with the same key, and with no fewer spent leaves.
+    // At every moment a stop leaves a file with its closed gate, the same key, and no fewer spent
+    // leaves.
     ensures any_moment { IsTrue D.honest → (d : Durable) →
         durable B.goes_on (D.bytes replica.disk) ≡ Ok d →
         Leaves (KeepsLeaves B.goes_on d) (D.past replica.disk) (D.past result.1) }

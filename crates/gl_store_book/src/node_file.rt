@@ -6,6 +6,7 @@ ghost use Rattle.gl_outside.specs.Fault.{Rose};
 ghost use Rattle.gl_outside.specs.Disk.{IsImage, Leaves};
 ghost use Rattle.gl_journal.specs.Parts.{HasGate};
 ghost use Rattle.gl_journal.specs.Durable.{Durable as State, journal_header, leaf_count, OpensToTheSame};
+ghost use Rattle.gl_journal.specs.Kept.{IsAtRest};
 ghost use Rattle.gl_journal.specs.declared.fault.JournalFault.{JournalFault};
 ghost use Rattle.gl_journal.specs.declared.key.KeyKind.{KeyKind};
 ghost use Rattle.gl_store_book.specs.Frames.{goes_on_ledger};
@@ -108,7 +109,7 @@ impl<D: Disk + Drop> Model for NodeFile<D> {
 }
 
 impl<D: Disk + Drop> NodeFile<D> {
-    ghost use Rattle.gl_store_book.specs.NodeFile.{OpensOnlyTo, node_of};
+    ghost use Rattle.gl_store_book.specs.NodeFile.{node_of};
     ghost use Rattle.gl_store_book.specs.declared.node_file.fault.OpeningFault.{OpeningFault};
 
     /// Opens a node's file that a stop may have left, and grows the node's key. An error gives the
@@ -118,8 +119,8 @@ impl<D: Disk + Drop> NodeFile<D> {
             opened (D.bytes disk) ≡ Ok file.state) }
         ensures kept { IsTrue D.honest → IfOk result (λ file.
             opened (D.bytes file.disk) ≡ Ok file.state) }
-        ensures after { IsTrue D.honest → IfOk result (λ file.
-            OpensOnlyTo (D.past file.disk) file.state) }
+        ensures at_rest { IsTrue D.honest → IfOk result (λ file.
+            IsAtRest (D.bytes file.disk) (D.past file.disk)) }
         ensures kind { IfOk result (λ file. file.state.key.kind ≡ KeyKind.Node) }
 
         // A key of another kind is refused, and the file then opens as before.

@@ -10,13 +10,14 @@ ghost use Rattle.gl_rules.specs.Replication.{restart};
 ghost use Rattle.gl_rules.specs.Steps.{become_leader, lead_if};
 ghost use Rattle.gl_rules.specs.World.{Start, joiner};
 ghost use Rattle.gl_journal.specs.Durable.{leaf_count, OpensToOneOf};
+ghost use Rattle.gl_journal.specs.Kept.{IsAtRest};
 ghost use Rattle.gl_journal.specs.declared.fault.JournalFault.{JournalFault};
 ghost use Rattle.gl_ledger.specs.LedgerBook.{ledger_book};
 ghost use Rattle.gl_ledger.specs.NodeKeys.{NodeKeys, service_layers};
 ghost use Rattle.gl_replication.specs.Stands.{Reports, StandsFor, Turns};
 ghost use Rattle.gl_store_book.specs.AtOpening.{leads_at_opening, node_at_opening, opened_state, opening_size, restarted_node};
 ghost use Rattle.gl_store_book.specs.Frames.{goes_on_ledger};
-ghost use Rattle.gl_store_book.specs.NodeFile.{key_of, node_of, opened, OpensOnlyTo, seen_state};
+ghost use Rattle.gl_store_book.specs.NodeFile.{key_of, node_of, opened, seen_state};
 ghost use Rattle.gl_store_book.specs.Replicas.{StandsForFile};
 ghost use Rattle.gl_store_book.specs.ServiceStart.{service_start, start_in};
 ghost use Rattle.gl_store_book.specs.Stands.{Stands};
@@ -183,9 +184,8 @@ impl<D: Disk + Drop> NodeFile<D> {
         ensures kept { IsTrue D.honest → (s : Start Item) → start_in bytes.now ≡ Ok s →
             IfOk result (λ replica.
             opened (D.bytes replica.disk) ≡ Ok (opened_state s self.state)) }
-        ensures after { IsTrue D.honest → (s : Start Item) → start_in bytes.now ≡ Ok s →
-            IfOk result (λ replica.
-            OpensOnlyTo (D.past replica.disk) (opened_state s self.state)) }
+        ensures at_rest { IsTrue D.honest → (s : Start Item) → start_in bytes.now ≡ Ok s →
+            IfOk result (λ replica. IsAtRest (D.bytes replica.disk) (D.past replica.disk)) }
         // At every moment each image that a stop may leave opens to the state before, or to this.
         ensures any_moment { IsTrue D.honest → (s : Start Item) → start_in bytes.now ≡ Ok s →
             IfOk result (λ replica.

@@ -12,6 +12,7 @@ mod dealings;
 mod expected;
 mod founding;
 mod keys;
+mod lives;
 mod loads;
 mod members;
 mod nodes;
@@ -24,7 +25,9 @@ mod run;
 mod schedules;
 mod serve;
 mod signatures;
+mod stops;
 mod table;
+mod told;
 mod turns;
 mod words;
 
@@ -148,5 +151,29 @@ fn shares_that_open_a_recovered_service(rt: HostRuntime) -> Result<(), Fail> {
     let mut table = Table::new(rt.alloc());
     founding::play(&rt, &mut table)?;
     recoveries::play_with_members(&rt, &mut table)?;
+    Ok(())
+}
+
+#[test]
+fn stops_of_a_genesis(rt: HostRuntime) -> Result<(), Fail> {
+    let mut table = Table::new(rt.alloc());
+    founding::play(&rt, &mut table)?;
+    lives::play_founding(&rt, &mut table)?;
+    Ok(())
+}
+
+#[test]
+fn stops_of_serves(rt: HostRuntime) -> Result<(), Fail> {
+    let mut table = Table::new(rt.alloc());
+    founding::play(&rt, &mut table)?;
+    lives::play_serves(&rt, &mut table)?;
+    Ok(())
+}
+
+#[test]
+fn stops_of_signatures(rt: HostRuntime) -> Result<(), Fail> {
+    let mut table = Table::new(rt.alloc());
+    founding::play(&rt, &mut table)?;
+    lives::play_signatures(&rt, &mut table)?;
     Ok(())
 }

@@ -11,8 +11,10 @@ pub struct Left {
     /// What its source had, and what it wrote.
     pub given: Vec<u8>,
     pub written: Vec<u8>,
-    /// The bytes of its disk, how often that was written and synced, and how often it failed.
+    /// The bytes of its disk, the pieces that it handed to that, one after the other, how often it
+    /// was written and synced, and how often it failed.
     pub disk: Vec<u8>,
+    pub pieces: Vec<u8>,
     pub disk_changes: usize,
     pub disk_faults: u64,
     /// Whether its source gave its end.
@@ -192,6 +194,12 @@ fn member_in<'a>(alloc: Global, text: &'a [u8], name: &str) -> Result<&'a [u8], 
     Ok(value.as_bytes())
 }
 
+/// The bytes that a member of an object encodes.
+pub fn encoded_member(alloc: Global, text: &[u8], name: &str) -> Result<Vec<u8>, AllocError> {
+    let digits = member_in(alloc, text, name)?;
+    encoded(alloc, digits)
+}
+
 /// What stands before and after the first place of a text.
 fn split_at<'a>(bytes: &'a [u8], text: &str) -> (&'a [u8], &'a [u8]) {
     let whole = str::from_utf8(bytes).unwrap_or("");
@@ -353,8 +361,7 @@ fn put_left(
             out.extend_from_slice(member_in(alloc, written_by(lefts, name), member)?)
         }
         Part::Encoded(name, member) => {
-            let digits = member_in(alloc, written_by(lefts, name), member)?;
-            out.extend_from_slice(&encoded(alloc, digits)?)
+            out.extend_from_slice(&encoded_member(alloc, written_by(lefts, name), member)?)
         }
         Part::Entry(name, number) => {
             out.extend_from_slice(entry_in(written_by(lefts, name), *number))

@@ -179,6 +179,7 @@ fn call<D: Disk + Drop + Send>(
         given: Vec::new(alloc),
         written: sink.inner.held,
         disk: Vec::new(alloc),
+        pieces: Vec::new(alloc),
         disk_changes: 0,
         disk_faults,
         is_read_whole: source.inner.ended,
@@ -215,6 +216,7 @@ fn play_over_disk(
     let (mut left, disk) = call(alloc, run, failing, prepared, disk)?;
     left.disk_changes = disk.inner.calls.len();
     left.disk = disk.inner.bytes;
+    left.pieces = disk.inner.pieces;
     Ok(left)
 }
 
@@ -240,4 +242,30 @@ pub fn play_failing(
     };
     left.given = prepared.input;
     Ok(left)
+}
+
+/// How many calls a run after earlier ones makes of its disk.
+pub fn count_calls(alloc: Global, run: &Run<'_>, lefts: &[Left]) -> Result<u64, AllocError> {
+    let prepared = prepare(alloc, run, lefts)?;
+    let bytes = bytes_of(alloc, run.disk.unwrap_or(&[]), lefts)?;
+    let disk = MemDisk::new(SureDisk::holding(alloc, &bytes)?, &[]);
+    let (_left, disk) = call(alloc, run, None, &prepared, disk)?;
+    Ok(disk.plan.calls)
+}
+
+/// Plays a run after earlier ones that stops at a call of its disk, and gives that disk.
+pub fn play_stopped(
+    alloc: Global,
+    run: &Run<'_>,
+    number: u64,
+    lefts: &[Left],
+) -> Result<(Left, SureDisk), AllocError> {
+    let prepared = prepare(alloc, run, lefts)?;
+    let bytes = bytes_of(alloc, run.disk.unwrap_or(&[]), lefts)?;
+    let failing = [number];
+    let disk = MemDisk::new(SureDisk::holding(alloc, &bytes)?, &failing);
+    let (mut left, disk) = call(alloc, run, None, &prepared, disk)?;
+    left.disk = disk.inner.bytes.to_vec(alloc)?;
+    left.pieces = disk.inner.pieces.to_vec(alloc)?;
+    Ok((left, disk.inner))
 }

@@ -25,7 +25,7 @@ const PUT_IN_SECRET: &[Part<'static>] = &[Hex(
 )];
 
 /// At the key `a` of the map `public:t`.
-const PUT: &[Part<'static>] = &[Hex(
+pub const PUT: &[Part<'static>] = &[Hex(
     "10 0800000000000000 14000000 0100 03 087075626c69633a74 010061 0100000001",
 )];
 
@@ -42,7 +42,7 @@ const BEGINNING: Run<'static> = Run {
     ..NODE
 };
 
-const SERVED: Output<'static> = Output::Is(&[Text("served 1 lost 0\n")]);
+pub const SERVED: Output<'static> = Output::Is(&[Text("served 1 lost 0\n")]);
 
 /// The files with a vote for view 3 after a gate. A timeout leads to the view after that which the
 /// file keeps, and a put is then an entry of that view.

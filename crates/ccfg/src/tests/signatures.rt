@@ -15,7 +15,7 @@ const ACK: &str = "{\"op\":\"ack\"}";
 
 const SIGN_WORDS: &[&str] = &["sign", "--identity", IDENTITY, "--member", "1"];
 
-const SIGN: Run<'static> = Run {
+pub const SIGN: Run<'static> = Run {
     words: SIGN_WORDS,
     input: &[Text(ACK)],
     ..RUN

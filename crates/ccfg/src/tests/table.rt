@@ -4,6 +4,7 @@ use crate::tests::expected::difference;
 use crate::tests::part::Left;
 use crate::tests::play::play;
 use crate::tests::run::{Inputs, Output, Run, Words};
+use crate::tests::stops::{Stop, first_unexpected_stop};
 use crate::tests::turns::{first_lines, first_unexpected_call, first_unexpected_prefix};
 use std::alloc::{AllocError, Global};
 use std::process::Abort;
@@ -103,6 +104,15 @@ impl Table {
     pub fn play_all(&mut self, rt: &impl Abort, runs: &[Run<'_>]) -> Result<(), AllocError> {
         for run in runs {
             self.play(rt, run)?;
+        }
+        Ok(())
+    }
+
+    /// Plays runs that stop at each call of their disk, and what comes after each stop.
+    pub fn play_stops(&mut self, rt: &impl Abort, stops: &[Stop<'_>]) -> Result<(), AllocError> {
+        for stop in stops {
+            let unexpected = first_unexpected_stop(self.alloc, stop, &mut self.lefts)?;
+            assert!(rt; unexpected.is_none(), "{}: {unexpected:?}", stop.name);
         }
         Ok(())
     }

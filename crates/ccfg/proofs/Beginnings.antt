@@ -17,8 +17,9 @@ use Rattle.gl_store_book.specs.ViewVotes.{IsOfOpening, IsTooLarge}
 use Rattle.gl_store_book.specs.declared.node_file.fault.OpeningFault.{OpeningFault}
 use Rattle.gl_store_book.specs.declared.node_file.fault.OpeningFault.TheVariants as faults
 use Rattle.ccfg.specs.NodeCommand.{NeedsNoSource}
+use Rattle.ccfg.specs.Plans.{OpensAsBefore}
 use Rattle.ccfg.specs.SignCommand.{IsForeign}
-use Rattle.ccfg.specs.Nodes.{Beginning, HasLedger, OfOpened, begin_after, begin_with, beginning, beginning_of, has_ledger, opened_by}
+use Rattle.ccfg.specs.Nodes.{Beginning, OfOpened, begin_after, begin_with, beginning, beginning_of, has_ledger, opened_by}
 
 -- ---- values
 
@@ -46,17 +47,18 @@ pub by_opened : (honest : Bool) (held : List ℕ) (printed : Result Durable Jour
 by_opened true held printed Q e q = subst Q (sym (e refl)) q
 by_opened false held printed Q e q = (printed, q)
 
--- a source is read to its end where the file has no ledger
-pub ledger_or_end : {A E : Type 0} (r : Result A E) (honest : Bool) (held : List ℕ) (d : Durable) (ended : Bool) → (IsTrue honest → opened held ≡ Ok d) → (has_ledger d.log ≡ false → IfOk r (λ a. ended ≡ true)) →
-    IfOk r (λ a. OfOpened honest held (λ opens. HasLedger opens ⊎ (ended ≡ true)))
-ledger_or_end r honest held d ended kept given = go (has_ledger d.log) refl
+-- the file has a ledger, or the source gave its end
+pub ledger_or_end : {A E : Type 0} (r : Result A E) (d : Durable) (ended : Bool) → (has_ledger d.log ≡ false → IfOk r (λ a. ended ≡ true)) → IfOk r (λ a. (has_ledger d.log ≡ true) ⊎ (ended ≡ true))
+ledger_or_end r d ended given = go (has_ledger d.log) refl
   where
-    Q : Result Durable JournalFault → Type 0
-    Q opens = HasLedger opens ⊎ (ended ≡ true)
+    go : (b : Bool) → has_ledger d.log ≡ b → IfOk r (λ a. (has_ledger d.log ≡ true) ⊎ (ended ≡ true))
+    go true e = ok_any r (λ a. inl e)
+    go false e = ok_map r (λ a is. inr is) (given e)
 
-    go : (b : Bool) → has_ledger d.log ≡ b → IfOk r (λ a. OfOpened honest held Q)
-    go true e = ok_any r (λ a. by_opened honest held (Ok d) Q kept (inl e))
-    go false e = ok_map r (λ a is. by_opened honest held (Ok d) Q kept (inr is)) (given e)
+-- both hold
+pub ok_both : {A E : Type 0} (P Q : A → Type 0) (r : Result A E) → IfOk r P → IfOk r Q → IfOk r (λ a. P a × Q a)
+ok_both P Q (Ok a) p q = (p, q)
+ok_both P Q (Err e) p q = tt
 
 -- an honest disk opens to something of which it holds
 pub of_honest : (honest : Bool) (held : List ℕ) (Q : Result Durable JournalFault → Type 0) → (IsTrue honest → (d : Durable) × (opened held ≡ Ok d) × Q (Ok d)) → (other : Result Durable JournalFault) → Q other → OfOpened honest held Q
@@ -120,6 +122,13 @@ has_one opens d is kind none = go (subst NeedsNoSource is none)
     go : (d.key.kind ≢ kinds.Node) ⊎ (has_ledger d.log ≡ true) → has_ledger d.log ≡ true
     go (inl other) = absurd (other kind)
     go (inr has) = has
+
+-- what is as it was opens as it did
+pub opens_as : (held holds : List ℕ) (d : Durable) → opened held ≡ Ok d → opened holds ≡ Ok d → OpensAsBefore held holds
+opens_as held holds d before after = λ state is. after ∙ sym before ∙ is
+
+pub opens_none : (held holds : List ℕ) (fault : JournalFault) → opened held ≡ Err fault → OpensAsBefore held holds
+opens_none held holds fault none = λ state is. absurd (let both : ◌≡◌ {A = Result Durable JournalFault} (Err fault) (Ok state) = sym none ∙ is in cc)
 
 -- a file that opens is no foreign one
 pub not_foreign : {A : Type 0} (opens : Result Durable JournalFault) (d : Durable) → opens ≡ Ok d → IsForeign opens → A

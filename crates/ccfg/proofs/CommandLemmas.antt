@@ -28,13 +28,13 @@ use Rattle.gl_commands.proofs.WordLemmas.{HasKind, some_kind}
 use Rattle.gl_audit.specs.Verdict.{verdict}
 use Rattle.ccfg.specs.Commands.{Does, ReportsFault, TaskDoes}
 use Rattle.ccfg.specs.Exits.{Exits, ExitsBy, ExitsByDisk}
-use Rattle.ccfg.specs.ExpectedOutput.{Output, Shown, WritesOutput, key_kind, leaf_use, output_of, output_of_audit, output_of_dealing, output_of_fault, output_of_receipt, output_of_schedule, uses_disk}
+use Rattle.ccfg.specs.ExpectedOutput.{Output, PrintsFaultPrefix, Shown, WritesOutput, key_kind, leaf_use, output_of, output_of_audit, output_of_dealing, output_of_fault, output_of_receipt, output_of_schedule, uses_disk}
 use Rattle.ccfg.specs.Faults.{fault_line}
 use Rattle.ccfg.specs.NodeCommand.{NodeDoes}
-use Rattle.ccfg.specs.Nodes.{KeepsNode}
+use Rattle.ccfg.specs.Nodes.{IsUnserved, KeepsNode}
 use Rattle.ccfg.specs.Plans.{IsUntouched, KeepsKey, MovesByLeaf, MovesToKey, OpensAsBefore, SpendsLeaf}
 use Rattle.ccfg.specs.Run.{LinkRun, Run}
-use Rattle.ccfg.specs.SignCommand.{HasNoKey, IsForeign, PrintsFaultPrefix, TakesLeaf}
+use Rattle.ccfg.specs.SignCommand.{HasNoKey, IsForeign, TakesLeaf}
 use Rattle.ccfg.specs.VerifyCommand.{PrintsAccepted}
 use Rattle.ccfg.specs.declared.ending.Ending.{Ending}
 use Rattle.ccfg.specs.declared.ending.Ending.TheVariants as endings
@@ -66,6 +66,7 @@ module _ {S D : Type 0} (r : Run S D) (e : Ending) where
       (uses_disk task ≡ false → (r.disk.after ≡ r.disk.before) × (e ≢ endings.DiskFailed)) →
       (e ≡ endings.Done → (identity : List ℕ) → task ≡ tasks.Verify identity → OfBytes r.source.given (λ given. PrintsAccepted identity given r.sink.held r.sink.holds)) →
       (e ≡ endings.Done → IsTrue r.disk.honest → (kind : KeyKind) (types : Types) → task ≡ tasks.Keygen kind types → OfBytes r.source.given (KeepsKey kind types (r.disk.past r.disk.after))) →
+      (IsTrue r.disk.honest → (e ≡ endings.SinkFailed) ⊎ (e ≡ endings.Memory) → (kind : KeyKind) (types : Types) → task ≡ tasks.Keygen kind types → OfBytes r.source.given (KeepsKey kind types (r.disk.past r.disk.after)) ⊎ PrintsFaultPrefix r.sink.held r.sink.holds) →
       (IsTrue r.disk.honest → 0 < length held → (kind : KeyKind) (types : Types) → task ≡ tasks.Keygen kind types → IsUntouched r.disk.bytes r.disk.past r.disk.before r.disk.after) →
       (IsTrue r.disk.honest → 0 < length held → (kind : KeyKind) (types : Types) → task ≡ tasks.Keygen kind types → r.source.after ≡ r.source.before) →
       (IsTrue r.disk.honest → (e ≡ endings.NotValid) ⊎ (e ≡ endings.SourceFailed) ⊎ (e ≡ endings.NoReading) → (kind : KeyKind) (types : Types) → task ≡ tasks.Keygen kind types → IsUntouched r.disk.bytes r.disk.past r.disk.before r.disk.after) →
@@ -78,24 +79,25 @@ module _ {S D : Type 0} (r : Run S D) (e : Ending) where
       (IsTrue r.disk.honest → (leaf : LeafUse) → leaf_use task ≡ Some leaf → IsForeign (opened held) → (e ≢ endings.DiskFailed) → r.disk.bytes r.disk.after ≡ held) →
       (IsTrue r.disk.honest → (kind : KeyKind) → key_kind task ≡ Some kind → HasNoKey kind (opened held) → r.source.after ≡ r.source.before) →
       ExitsByDisk r e (output_of task) → TaskDoes task r e
-  task_does tasks.Replay disk accepted kept full unread untouched keyed signed spent moved unspent foreign bytes keyless runs =
+  task_does tasks.Replay disk accepted kept shown full unread untouched keyed signed spent moved unspent foreign bytes keyless runs =
       record { exact = plain output_of_schedule runs; disk = record { same = (disk refl).0; never = (disk refl).1 } }
-  task_does (tasks.Verify identity) disk accepted kept full unread untouched keyed signed spent moved unspent foreign bytes keyless runs =
+  task_does (tasks.Verify identity) disk accepted kept shown full unread untouched keyed signed spent moved unspent foreign bytes keyless runs =
       record { exact = plain (output_of_receipt identity) runs; accepted = λ done. accepted done identity refl; disk = record { same = (disk refl).0; never = (disk refl).1 } }
-  task_does (tasks.Audit identity) disk accepted kept full unread untouched keyed signed spent moved unspent foreign bytes keyless runs =
+  task_does (tasks.Audit identity) disk accepted kept shown full unread untouched keyed signed spent moved unspent foreign bytes keyless runs =
       record { exact = plain (λ given. output_of_audit (verdict identity given)) runs; disk = record { same = (disk refl).0; never = (disk refl).1 } }
-  task_does (tasks.Keygen kind types) disk accepted kept full unread untouched keyed signed spent moved unspent foreign bytes keyless runs =
+  task_does (tasks.Keygen kind types) disk accepted kept shown full unread untouched keyed signed spent moved unspent foreign bytes keyless runs =
       record {
         exact = runs;
         kept = λ done honest. kept done honest kind types refl;
+        shown = λ honest is. shown honest is kind types refl;
         not_empty = λ honest some. full honest some kind types refl;
         unread = λ honest some. unread honest some kind types refl;
         untouched = λ honest is. untouched honest is kind types refl;
         any_moment = λ honest. keyed honest kind types refl;
       }
-  task_does (tasks.Deal threshold members) disk accepted kept full unread untouched keyed signed spent moved unspent foreign bytes keyless runs =
+  task_does (tasks.Deal threshold members) disk accepted kept shown full unread untouched keyed signed spent moved unspent foreign bytes keyless runs =
       record { exact = plain (output_of_dealing threshold members) runs; disk = record { same = (disk refl).0; never = (disk refl).1 } }
-  task_does (tasks.Sign signing) disk accepted kept full unread untouched keyed signed spent moved unspent foreign bytes keyless runs =
+  task_does (tasks.Sign signing) disk accepted kept shown full unread untouched keyed signed spent moved unspent foreign bytes keyless runs =
       let leaf = use_of signing in
       record {
         exact = runs;
@@ -103,7 +105,7 @@ module _ {S D : Type 0} (r : Run S D) (e : Ending) where
             (λ yes none. foreign yes leaf refl none) (λ yes none other. bytes yes leaf refl none other);
         unread = λ honest none. keyless honest (kind_of signing) refl none;
       }
-  task_does tasks.Recover disk accepted kept full unread untouched keyed signed spent moved unspent foreign bytes keyless runs =
+  task_does tasks.Recover disk accepted kept shown full unread untouched keyed signed spent moved unspent foreign bytes keyless runs =
       record {
         exact = runs;
         leaf = λ honest. takes Start honest (λ done yes. signed done yes Start refl) (λ yes is. spent yes is Start refl) (λ yes gate. moved yes gate Start refl) (λ yes is. unspent yes is Start refl)
@@ -138,10 +140,13 @@ module _ {S D L : Type 0} (r : Run S D) (link : LinkRun L) (source : r.source.af
   untouched : IsUntouched r.disk.bytes r.disk.past r.disk.before r.disk.after
   untouched = record { bytes = ap r.disk.bytes disk; past = ap r.disk.past disk }
 
-  same_images : Leaves (IsImage (r.disk.past r.disk.before)) (r.disk.past r.disk.before) (r.disk.past r.disk.after)
-  same_images =
+  no_moments : (P : List ℕ → Type 0) → ((image : List ℕ) → IsImage (r.disk.past r.disk.before) image → P image) → Leaves P (r.disk.past r.disk.before) (r.disk.past r.disk.after)
+  no_moments P here =
       let before = r.disk.past r.disk.before in
-      stayed (IsImage before) before before (r.disk.past r.disk.after) (started (IsImage before) before (λ image left. left)) (ap r.disk.past disk)
+      stayed P before before (r.disk.past r.disk.after) (started P before here) (ap r.disk.past disk)
+
+  same_images : Leaves (IsImage (r.disk.past r.disk.before)) (r.disk.past r.disk.before) (r.disk.past r.disk.after)
+  same_images = no_moments (IsImage (r.disk.past r.disk.before)) (λ image left. left)
 
   no_task : (task : Task) → TaskDoes task r endings.Memory
   no_task task =
@@ -149,6 +154,7 @@ module _ {S D L : Type 0} (r : Run S D) (link : LinkRun L) (source : r.source.af
       (λ plain. (disk, λ is. cc))
       (λ done identity is. absurd (not_done done))
       (λ done honest kind types is. absurd (not_done done))
+      (λ honest end kind types is. inr (TooMuchJson, prefix (fault_line TooMuchJson)))
       (λ honest some kind types is. untouched)
       (λ honest some kind types is. source)
       (λ honest stop kind types is. absurd (not_stopped stop))
@@ -165,15 +171,14 @@ module _ {S D L : Type 0} (r : Run S D) (link : LinkRun L) (source : r.source.af
   pub nothing_does : (command : Asked) → Does command r link endings.Memory
   nothing_does (asks.Task task) = (no_task task, λ other. faults, same)
   nothing_does (asks.Node node) =
-      record {
-        exact = inl (inl same, keeps);
-        any_moment = λ honest gate.
-            let P = KeepsNode (r.disk.bytes r.disk.before) (r.disk.past r.disk.before) in
-            stayed P (r.disk.past r.disk.before) (r.disk.past r.disk.before) (r.disk.past r.disk.after) (started P (r.disk.past r.disk.before) (λ image left. inl (inl left))) (ap r.disk.past disk);
+      let does : NodeDoes node r link endings.Memory = record {
+        exact = inl (inl (record { link_same = same; any_moment = λ honest gate. no_moments (IsUnserved (r.disk.bytes r.disk.before) (r.disk.past r.disk.before)) (λ image left. inl (inl left)) }), keeps);
+        any_moment = λ honest gate. no_moments (KeepsNode (r.disk.bytes r.disk.before) (r.disk.past r.disk.before)) (λ image left. inl (inl left));
         foreign = λ honest none. same_images;
         foreign_bytes = λ honest none other. ap r.disk.bytes disk;
         unread = λ honest none. source;
-      }
+      } in
+      (does, λ other. faults, λ other. ap (λ (l : L). (link.inward l).faults) same)
   nothing_does (asks.Load load) = (record { exact = prefix _; source = source; disk = record { same = disk; never = λ is. cc } }, same)
 
   -- and where the words ask for nothing

@@ -23,13 +23,12 @@ use Rattle.gl_commands.specs.declared.task.Task.TheVariants as tasks
 use Rattle.ccfg.specs.Faults.{fault_line}
 use Rattle.ccfg.specs.Exits.{Exits, ExitsByDisk}
 use Rattle.ccfg.specs.Run.{Run}
-use Rattle.ccfg.specs.SignCommand.{PrintsFaultPrefix}
 use Rattle.ccfg.specs.VerifyCommand.{PrintsAccepted}
-use Rattle.ccfg.specs.ExpectedOutput.{Output, EndsSource, Shown, Written, WritesOutput, bytes_limit, output_of_answer, output_of_audit, output_of_fault, output_of_form, output_of_load, output_of_reading, output_of_receipt, output_of_schedule, ending_of_fault, ending_of_stop, json_limit, ledger_line, lines_limit, report_text, requests_limit, valid_line}
+use Rattle.ccfg.specs.ExpectedOutput.{EndsSource, Output, PrintsFaultPrefix, Shown, WritesOutput, Written, bytes_limit, ending_of_fault, ending_of_stop, json_limit, ledger_line, lines_limit, output_of_answer, output_of_audit, output_of_fault, output_of_form, output_of_load, output_of_reading, output_of_receipt, output_of_schedule, report_text, requests_limit, valid_line}
 use Rattle.ccfg.specs.Plans.{KeepsKey, SpendsLeaf, PrintsFault, PrintsSpent, ShowsAccepted, ShowsKept, output_of_plan}
 use Rattle.ccfg.specs.declared.plan.PlanError.{PlanError}
 use Rattle.ccfg.specs.declared.plan.PlanError.TheVariants as stops
-use Rattle.ccfg.proofs.ShownLemmas.{OfBoth, both_any, both_map, of_map}
+use Rattle.ccfg.proofs.ShownLemmas.{OfBoth, both_any, both_map, from_given, of_map}
 use Rattle.gl_journal.specs.declared.key.KeyKind.{KeyKind}
 use Rattle.gl_keyfile.specs.declared.leaf.LeafUse.{LeafUse}
 use Rattle.gl_hss.specs.declared.types.Types.{Types}
@@ -186,6 +185,16 @@ pub kept : (kind : KeyKind) (types : Types) (past : List Step) (plan : Plan) (e 
     e ≡ endings.Done → WritesOutput e w (output_of_plan plan) → OfBytes given (KeepsKey kind types past)
 kept kind types past plan e w given sound is writes =
     of_map given (λ g. ShowsKept kind types past g plan) (KeepsKey kind types past) (λ g shown. kept_by kind types past plan w g shown (subst (λ (x : Ending). WritesOutput x w (output_of_plan plan)) is writes)) sound
+
+-- it is, or a prefix of a fault's line was written
+pub kept_or_refused : (kind : KeyKind) (types : Types) (past : List Step) (plan : Plan) (e : Ending) (w : Written) (given : Option (List ℕ)) → OfBytes given (λ g. ShowsKept kind types past g plan) → WritesOutput e w (output_of_plan plan) →
+    (e ≡ endings.SinkFailed) ⊎ (e ≡ endings.Memory) → OfBytes given (KeepsKey kind types past) ⊎ PrintsFaultPrefix w.held w.holds
+kept_or_refused kind types past (Play schedule) e w given sound writes is = from_given given (λ g. ⊥) (OfBytes given (KeepsKey kind types past) ⊎ PrintsFaultPrefix w.held w.holds) (λ g none. absurd none) sound
+kept_or_refused kind types past (Show id) e w given sound writes is = from_given given (λ g. ⊥) (OfBytes given (KeepsKey kind types past) ⊎ PrintsFaultPrefix w.held w.holds) (λ g none. absurd none) sound
+kept_or_refused kind types past (ShowLedger last signed) e w given sound writes is = from_given given (λ g. ⊥) (OfBytes given (KeepsKey kind types past) ⊎ PrintsFaultPrefix w.held w.holds) (λ g none. absurd none) sound
+kept_or_refused kind types past (Print text) e w given sound writes is = inl sound
+kept_or_refused kind types past (Refuse fault) e w given sound writes (inl is) = inr (fault, (subst (λ (x : Ending). WritesOutput x w (output_of_fault fault)) is writes).1)
+kept_or_refused kind types past (Refuse fault) e w given sound writes (inr is) = inr (fault, subst (λ (x : Ending). WritesOutput x w (output_of_fault fault)) is writes)
 
 -- a sink doesn't fail as a disk does
 pub no_disk : (e : Ending) (w : Written) (output : Output) → WritesOutput e w output → e ≡ endings.DiskFailed → ⊥

@@ -31,11 +31,11 @@ Exits r endings.PastLimit output =
 Exits r endings.NoReading output =
     EndsSource output r.source.ended × WritesOutput endings.NoReading r.sink output
 
--- It ends so by the bytes of the source, where these owe this,
+-- The run ends so where this output is due for the bytes that its source gives,
 abbrev pub ExitsBy : {S D : Type 0} → Run S D → Ending → (List ℕ → Output) → Type 0
 ExitsBy r e expected = OfBytes r.source.given (λ given. Exits r e (expected given))
 
--- and by what the disk showed besides.
+-- and where it is due for what its disk showed, and these bytes.
 abbrev pub ExitsByDisk : {S D : Type 0} → Run S D → Ending → (Shown → List ℕ → Output) → Type 0
 ExitsByDisk r e expected =
     OfShown r.disk.honest (r.disk.bytes r.disk.before) (λ shown. ExitsBy r e (expected shown))

@@ -429,3 +429,7 @@ EndsSource output ended = output.whole ≡ true → ended ≡ true
 -- A prefix of such a text was written.
 abbrev pub PrintsPrefix : (List ℕ → Type 0) → Option (List ℕ) → Option (List ℕ) → Type 0
 PrintsPrefix P held holds = (text : List ℕ) × P text × AppendsPrefix held holds text
+
+-- A prefix of the line of a fault was written, or nothing.
+abbrev pub PrintsFaultPrefix : Option (List ℕ) → Option (List ℕ) → Type 0
+PrintsFaultPrefix held holds = (fault : Fault) × AppendsPrefix held holds (fault_line fault)

@@ -3,12 +3,12 @@ use Rattle.std.specs.Prelude.{◌≡◌, ◌⊎◌, ℕ, ◌<◌, List, IsTrue, 
 use Rattle.gl_entry.specs.SourceBytes.{OfBytes}
 use Rattle.gl_hss.specs.declared.types.Types.{Types}
 use Rattle.gl_journal.specs.declared.key.KeyKind.{KeyKind}
-use Rattle.ccfg.specs.ExpectedOutput.{on_empty, output_of_seed}
+use Rattle.ccfg.specs.ExpectedOutput.{PrintsFaultPrefix, on_empty, output_of_seed}
 use Rattle.ccfg.specs.Exits.{ExitsByDisk}
 use Rattle.ccfg.specs.Plans.{IsUntouched, KeepsKey, MovesToKey}
 use Rattle.ccfg.specs.Run.{IsUnread, Run}
 use Rattle.ccfg.specs.declared.ending.Ending.{Ending}
-use Rattle.ccfg.specs.declared.ending.Ending.TheVariants.{Done, NoReading, NotValid, SourceFailed}
+use Rattle.ccfg.specs.declared.ending.Ending.TheVariants.{Done, Memory, NoReading, NotValid, SinkFailed, SourceFailed}
 
 pub record KeygenDoes {S D : Type 0} (kind : KeyKind) (types : Types) (r : Run S D) (e : Ending)
     : Type 0 where
@@ -18,6 +18,11 @@ pub record KeygenDoes {S D : Type 0} (kind : KeyKind) (types : Types) (r : Run S
   -- the source's bytes as its seed, and to nothing else.
   pub kept : e ≡ Done → IsTrue r.disk.honest →
       OfBytes r.source.given (KeepsKey kind types (r.disk.past r.disk.after))
+  -- 4 and 7: so it is there too, unless what was written is a prefix of a fault's line, or
+  -- nothing.
+  pub shown : IsTrue r.disk.honest → (e ≡ SinkFailed) ⊎ (e ≡ Memory) →
+      OfBytes r.source.given (KeepsKey kind types (r.disk.past r.disk.after))
+      ⊎ PrintsFaultPrefix r.sink.held r.sink.holds
   -- An honest disk that isn't empty stays as it was, and the source is left unread.
   pub not_empty : IsTrue r.disk.honest → 0 < length (r.disk.bytes r.disk.before) →
       IsUntouched r.disk.bytes r.disk.past r.disk.before r.disk.after

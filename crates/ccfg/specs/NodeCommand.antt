@@ -29,8 +29,8 @@ pub record NodeDoes {S D L : Type 0} (node : NodeTask) (r : Run S D) (link : Lin
   pub any_moment : IsTrue r.disk.honest → HasGate journal_header (r.disk.bytes r.disk.before) →
       MovesNode (r.disk.bytes r.disk.before) (r.disk.past r.disk.before)
       (r.disk.past r.disk.after)
-  -- A file that is no journal is left alone: at every moment a stop leaves what it might have left
-  -- before, and but where the disk failed it has the bytes that it had.
+  -- A file that opens to nothing is left alone: at every moment a stop leaves what it might have
+  -- left before, and but where the disk failed it has the bytes that it had.
   pub foreign : IsTrue r.disk.honest → IsForeign (opened (r.disk.bytes r.disk.before)) →
       Leaves (IsImage (r.disk.past r.disk.before)) (r.disk.past r.disk.before)
       (r.disk.past r.disk.after)

@@ -8,13 +8,15 @@ use Rattle.gl_ledger.specs.LedgerBook.{ServiceBook}
 use Rattle.gl_entry.specs.SourceBytes.{OfBytes}
 use Rattle.gl_outside.specs.Disk.{Leaves, Step}
 use Rattle.gl_outside.specs.Fault.{Rose}
-use Rattle.gl_journal.specs.Durable.{Durable, OpensToTheSame}
+use Rattle.gl_journal.specs.Durable.{Durable, OpensToTheSame, journal_header}
+use Rattle.gl_journal.specs.Kept.{IsAtRest}
+use Rattle.gl_journal.specs.Parts.{HasGate}
 use Rattle.gl_journal.specs.Records.{key_kind_tag}
 use Rattle.gl_journal.specs.declared.fault.JournalFault.{JournalFault}
 use Rattle.gl_journal.specs.declared.key.KeyKind.TheVariants as kinds
 use Rattle.gl_store_book.specs.AtOpening.{node_at_opening, opened_state, opening_size, restarted_node}
 use Rattle.gl_store_book.specs.Frames.{goes_on_ledger}
-use Rattle.gl_store_book.specs.NodeFile.{OpensOnlyTo, opened}
+use Rattle.gl_store_book.specs.NodeFile.{opened}
 use Rattle.gl_store_book.specs.Replicas.{StandsForFile}
 use Rattle.gl_store_book.specs.ServiceStart.{start_in}
 use Rattle.gl_store_book.specs.Stands.{NodeStore, Stands}
@@ -30,6 +32,7 @@ use Rattle.gl_serve.specs.NodeWork.{serving_rules}
 use Rattle.gl_serve.specs.Types.{NodeSeen}
 use Rattle.ccfg.specs.Faults.{fault_line}
 use Rattle.ccfg.specs.ExpectedOutput.{PrintsPrefix}
+use Rattle.ccfg.specs.Plans.{OpensAsBefore}
 use Rattle.ccfg.specs.Run.{LinkRun, Run}
 use Rattle.ccfg.specs.declared.ending.Ending.{Ending}
 use Rattle.ccfg.specs.declared.ending.Ending.TheVariants as endings
@@ -107,6 +110,21 @@ KeepsNode bytes past image =
     OpensToTheSame goes_on_ledger bytes past image
     ⊎ ((d : Durable) × (opened bytes ≡ Ok d) × KeepsLeaves goes_on_ledger d image)
 
+-- An image has its closed gate, and opens to this state, or to it with an opening ledger, where it
+-- has none.
+abbrev pub KeepsOpening : Durable → List ℕ → Type 0
+KeepsOpening d image =
+    HasGate journal_header image
+    × ((opened image ≡ Ok d)
+    ⊎ ((has_ledger d.log ≡ false) × (s : Start Entry) × (opened image ≡ Ok (opened_state s d))))
+
+-- An image that a stop might have left before, or one that has its closed gate and opens to what
+-- the bytes open to, or to that with an opening ledger.
+abbrev pub IsUnserved : List ℕ → List Step → List ℕ → Type 0
+IsUnserved bytes past image =
+    OpensToTheSame goes_on_ledger bytes past image
+    ⊎ ((d : Durable) × (opened bytes ≡ Ok d) × KeepsOpening d image)
+
 -- So it is of each image that a stop may leave at some moment since then.
 abbrev pub MovesNode : List ℕ → List Step → List Step → Type 0
 MovesNode bytes before after = Leaves (KeepsNode bytes before) before after
@@ -127,12 +145,13 @@ IsAsked task s =
 -- Over a disk with these bytes and this history, and its count of faults.
 module _ {D : Type 0} (honest : Bool) (bytes : D → List ℕ) (past : D → List Step)
     (faults_of : D → ℕ) where
-  -- A node began so: of the rules it is this one, and an honest disk keeps that, whatever comes.
+  -- A node began so: of the rules it is this one, and an honest disk keeps that, whatever comes: a
+  -- stop leaves its bytes and no others.
   pub record BeginsAs (b : Beginning) (d : Durable) (first : NodeSeen D NodeStore) : Type 0 where
     pub stands : StandsForFile d first.core b.node
     pub going : first.stopped ≡ None
     pub keeps : IsTrue honest → opened (bytes first.disk) ≡ Ok b.state
-    pub only : IsTrue honest → OpensOnlyTo (past first.disk) b.state
+    pub at_rest : IsTrue honest → IsAtRest (bytes first.disk) (past first.disk)
 
   -- By what the disk's bytes opened to and the source gave.
   pub record BeginsBy (opens : Result Durable JournalFault) (given : List ℕ)
@@ -151,13 +170,15 @@ module _ {S D L : Type 0} (task : NodeTask) (r : Run S D) (link : LinkRun L) whe
       OfOpened r.disk.honest (r.disk.bytes r.disk.before) (λ opens.
       OfBytes r.source.given (λ given. P opens given))
 
-  -- It began so from its file and the source, and what it then did over the link came to this end.
+  -- It began so from its file and the source, which gave its end where the file has no ledger, and
+  -- what it then did over the link came to this end.
   pub record Served (end : Result (ℕ × ℕ) ServeEnd) : Type 0 where
     pub settings : Serving
     pub asked : IsAsked task settings
     pub first : NodeSeen D NodeStore
     pub begins : OfBeginning (λ opens given.
-        BeginsBy r.disk.honest r.disk.bytes r.disk.past r.disk.faults opens given first)
+        BeginsBy r.disk.honest r.disk.bytes r.disk.past r.disk.faults opens given first
+        × (HasLedger opens ⊎ (r.source.ended ≡ true)))
     pub last : NodeSeen D NodeStore
     pub course : Serves link.honest
         (serving_rules Stands goes_on_ledger r.disk.honest r.disk.bytes r.disk.past r.disk.faults)
@@ -166,13 +187,24 @@ module _ {S D L : Type 0} (task : NodeTask) (r : Run S D) (link : LinkRun L) whe
         last (link.past link.after) (link.inward link.after).coming end
     pub disk : last.disk ≡ r.disk.after
 
-  -- It didn't begin: nothing was sent or asked for.
-  abbrev pub LeavesLink : Type 0
-  LeavesLink = link.after ≡ link.before
+  -- It didn't begin: nothing was sent or asked for. Where the file of an honest disk has its closed
+  -- gate, then at every moment a stop leaves what it might have left before, or what opens to what
+  -- the file opened to, or to that with an opening ledger.
+  pub record NotServed : Type 0 where
+    pub link_same : link.after ≡ link.before
+    pub any_moment : IsTrue r.disk.honest → HasGate journal_header (r.disk.bytes r.disk.before) →
+        Leaves (IsUnserved (r.disk.bytes r.disk.before) (r.disk.past r.disk.before))
+        (r.disk.past r.disk.before) (r.disk.past r.disk.after)
+
+  -- And an honest disk's file opens to what it opened to.
+  pub record NotOpened : Type 0 where
+    pub served : NotServed
+    pub file : IsTrue r.disk.honest →
+        OpensAsBefore (r.disk.bytes r.disk.before) (r.disk.bytes r.disk.after)
 
   -- It didn't begin, by this fault.
   abbrev pub NotBegun : OpeningFault → Type 0
-  NotBegun fault = OfBeginning (λ opens given. beginning_of opens given ≡ Err fault) × LeavesLink
+  NotBegun fault = OfBeginning (λ opens given. beginning_of opens given ≡ Err fault) × NotOpened
 
   -- An expected text: why it didn't begin, the counts, or that its turns are over.
   abbrev pub NodeOutput : List ℕ → Type 0
@@ -185,8 +217,6 @@ module _ {S D L : Type 0} (task : NodeTask) (r : Run S D) (link : LinkRun L) whe
   abbrev pub NodeRuns : Ending → Type 0
   NodeRuns endings.Done =
       ((link.inward link.after).ended ≡ true)
-      × OfOpened r.disk.honest (r.disk.bytes r.disk.before) (λ opens.
-      HasLedger opens ⊎ (r.source.ended ≡ true))
       × (counts : ℕ × ℕ) × Served (Ok counts)
       × Appends r.sink.held r.sink.holds (served_line counts)
   NodeRuns endings.NotValid =
@@ -194,18 +224,18 @@ module _ {S D L : Type 0} (task : NodeTask) (r : Run S D) (link : LinkRun L) whe
       × Appends r.sink.held r.sink.holds (fault_line (printed.Opening fault))
   NodeRuns endings.OtherWords = ⊥
   NodeRuns endings.SourceFailed =
-      Rose r.source.faults r.source.faults_now × LeavesLink × Keeps r.sink.held r.sink.holds
+      Rose r.source.faults r.source.faults_now × NotOpened × Keeps r.sink.held r.sink.holds
   NodeRuns endings.SinkFailed =
       Rose r.sink.faults r.sink.faults_now
       × PrintsPrefix NodeOutput r.sink.held r.sink.holds
   NodeRuns endings.DiskFailed =
       Rose (r.disk.faults r.disk.before) (r.disk.faults r.disk.after)
-      × (LeavesLink ⊎ Served (Err ends.Stopped)) × Keeps r.sink.held r.sink.holds
+      × (NotServed ⊎ Served (Err ends.Stopped)) × Keeps r.sink.held r.sink.holds
   NodeRuns endings.LinkFailed =
       Rose (link.inward link.before).faults (link.inward link.after).faults
       × Served (Err ends.LinkFailed) × Keeps r.sink.held r.sink.holds
   NodeRuns endings.Memory =
-      ((LeavesLink ⊎ Served (Err ends.NoMemory)) × Keeps r.sink.held r.sink.holds)
+      ((NotServed ⊎ Served (Err ends.NoMemory)) × Keeps r.sink.held r.sink.holds)
       ⊎ PrintsPrefix NodeOutput r.sink.held r.sink.holds
   NodeRuns endings.PastLimit =
       ((link.inward link.after).calls ≡ calls_after task.turns (link.inward link.before).calls)

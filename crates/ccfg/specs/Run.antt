@@ -73,7 +73,7 @@ link_run honest past inward before after = record {
   after = after;
 }
 
--- What each command is handed. The link is handed to `node` alone.
+-- What each command is handed. `node` is handed a link besides.
 pub record Run (S D : Type 0) : Type 0 where
   pub source : SourceRun S
   pub sink : Written

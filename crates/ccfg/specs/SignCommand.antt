@@ -1,5 +1,5 @@
 -- What a command does that signs with the key of the disk's file: `endorse`, `genesis` and `sign`.
-use Rattle.std.specs.Prelude.{◌≡◌, ◌≢◌, ◌⊎◌, ℕ, List, Option, Result, Ok, Err, IsTrue}
+use Rattle.std.specs.Prelude.{◌≡◌, ◌≢◌, ◌⊎◌, Result, Ok, Err, IsTrue}
 use Rattle.gl_journal.specs.Durable.{Durable, journal_header}
 use Rattle.gl_journal.specs.Parts.{HasGate}
 use Rattle.gl_journal.specs.declared.fault.JournalFault.{JournalFault}
@@ -9,21 +9,14 @@ use Rattle.gl_keyfile.specs.SigningRequest.{kind_of, use_of}
 use Rattle.gl_keyfile.specs.declared.leaf.LeafUse.{LeafUse}
 use Rattle.gl_keyfile.specs.declared.signature.Signing.{Signing}
 use Rattle.gl_outside.specs.Disk.{IsImage, Leaves}
-use Rattle.gl_outside.specs.Sink.{AppendsPrefix}
-use Rattle.ccfg.specs.ExpectedOutput.{output_of_signing}
+use Rattle.ccfg.specs.ExpectedOutput.{PrintsFaultPrefix, output_of_signing}
 use Rattle.ccfg.specs.Exits.{ExitsByDisk}
-use Rattle.ccfg.specs.Faults.{fault_line}
 use Rattle.ccfg.specs.Plans.{MovesByLeaf, OpensAsBefore, SpendsLeaf}
 use Rattle.ccfg.specs.Run.{IsUnread, Run}
 use Rattle.ccfg.specs.declared.ending.Ending.{Ending}
 use Rattle.ccfg.specs.declared.ending.Ending.TheVariants.{DiskFailed, Done, Memory, NoReading, NotValid, PastLimit, SinkFailed, SourceFailed}
-use Rattle.ccfg.specs.declared.fault.Fault.{Fault}
 
--- A prefix of the line of a fault was written, or nothing.
-abbrev pub PrintsFaultPrefix : Option (List ℕ) → Option (List ℕ) → Type 0
-PrintsFaultPrefix held holds = (fault : Fault) × AppendsPrefix held holds (fault_line fault)
-
--- What bytes open to that are no key file.
+-- Bytes that are no key file: they open to a fault.
 abbrev pub IsForeign : Result Durable JournalFault → Type 0
 IsForeign opens = (fault : JournalFault) × (opens ≡ Err fault)
 

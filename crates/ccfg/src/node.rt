@@ -7,18 +7,20 @@ ghost use Rattle.gl_entry.specs.SourceBytes.{OfBytes};
 ghost use Rattle.gl_outside.specs.Disk.{IsImage, Leaves};
 ghost use Rattle.gl_outside.specs.Fault.{Rose};
 ghost use Rattle.gl_journal.specs.Durable.{Durable, journal_header};
+ghost use Rattle.gl_journal.specs.Kept.{IsAtRest};
 ghost use Rattle.gl_journal.specs.Parts.{HasGate};
 ghost use Rattle.gl_journal.specs.declared.fault.JournalFault.{JournalFault};
 ghost use Rattle.gl_store_book.specs.Frames.{goes_on_ledger};
-ghost use Rattle.gl_store_book.specs.NodeFile.{opened, OpensOnlyTo};
+ghost use Rattle.gl_store_book.specs.NodeFile.{opened};
 ghost use Rattle.gl_store_book.specs.declared.node_file.fault.OpeningFault.{OpeningFault};
 ghost use Rattle.ccfg.specs.ExpectedOutput.{WritesOutput, output_of_answer, output_of_fault};
 ghost use Rattle.ccfg.specs.declared.fault.Fault.TheVariants as reported;
 ghost use Rattle.gl_serve.specs.OverLink.{KeepsLeaves};
 ghost use Rattle.ccfg.specs.NodeCommand.{NeedsNoSource};
 ghost use Rattle.ccfg.specs.SignCommand.{IsForeign};
+ghost use Rattle.ccfg.specs.Plans.{OpensAsBefore};
 ghost use Rattle.ccfg.specs.Run.{disk_run, link_run, sink_run, source_run};
-ghost use Rattle.ccfg.specs.Nodes.{BeginsAs, BeginsBy, Beginning, HasLedger, MovesNode, NodeRuns, OfOpened, beginning, beginning_of, disk_after, has_ledger, reopened, served_line};
+ghost use Rattle.ccfg.specs.Nodes.{BeginsAs, BeginsBy, Beginning, HasLedger, IsUnserved, KeepsOpening, MovesNode, NodeRuns, OfOpened, beginning, beginning_of, disk_after, has_ledger, reopened, served_line};
 
 use crate::ending::Ending;
 use crate::fault::Fault;
@@ -64,7 +66,7 @@ fn stop_of(error: OrNoMemory<OpeningFault>) -> NodeError
 /// The node of a file goes on from what the file keeps.
 fn reopen<D: Disk + Drop>(file: NodeFile<D>) -> Result<Replica<D, StoreBook>, (NodeError, D)>
     requires kept { IsTrue D.honest → opened (D.bytes file.disk) ≡ Ok file.state }
-    requires only { IsTrue D.honest → OpensOnlyTo (D.past file.disk) file.state }
+    requires at_rest { IsTrue D.honest → IsAtRest (D.bytes file.disk) (D.past file.disk) }
     ensures begins { IfOk result (λ replica. BeginsAs D.honest D.bytes D.past D.faults
         (reopened file.state) file.state replica) }
     ensures same { IfOk result (λ replica. replica.disk ≡ file.disk) }
@@ -85,7 +87,7 @@ fn begin_with<D: Disk + Drop>(
     given: &[u8],
 ) -> Result<Replica<D, StoreBook>, (NodeError, D)>
     requires kept { IsTrue D.honest → opened (D.bytes file.disk) ≡ Ok file.state }
-    requires only { IsTrue D.honest → OpensOnlyTo (D.past file.disk) file.state }
+    requires at_rest { IsTrue D.honest → IsAtRest (D.bytes file.disk) (D.past file.disk) }
     requires none { has_ledger file.state.log ≡ false }
     ensures begins { IfOk result (λ replica. (b : Beginning)
         × (beginning file.state given.now ≡ Ok b)
@@ -102,7 +104,7 @@ fn begin_with<D: Disk + Drop>(
         Rose (D.faults file.disk) (D.faults back) }
     ensures spent { IsTrue D.honest → IfOk result (λ replica.
         KeepsLeaves goes_on_ledger file.state (D.bytes replica.disk)) }
-    ensures any_moment { IsTrue D.honest → Leaves (KeepsLeaves goes_on_ledger file.state)
+    ensures any_moment { IsTrue D.honest → Leaves (KeepsOpening file.state)
         (D.past file.disk) (D.past (disk_after result)) }
 {
     if given.is_empty() {
@@ -122,7 +124,7 @@ fn begin<S: Source, D: Disk + Drop>(
     file: NodeFile<D>,
 ) -> Result<Replica<D, StoreBook>, (NodeError, D)>
     requires kept { IsTrue D.honest → opened (D.bytes file.disk) ≡ Ok file.state }
-    requires only { IsTrue D.honest → OpensOnlyTo (D.past file.disk) file.state }
+    requires at_rest { IsTrue D.honest → IsAtRest (D.bytes file.disk) (D.past file.disk) }
     ensures begins { IfOk result (λ replica. OfBytes (S.left source.old) (λ given. (b : Beginning)
         × (beginning file.state given ≡ Ok b)
         × BeginsAs D.honest D.bytes D.past D.faults b file.state replica)) }
@@ -135,6 +137,8 @@ fn begin<S: Source, D: Disk + Drop>(
     ensures going { IfOk result (λ replica. replica.stopped ≡ None) }
     ensures quiet { IfOk result (λ replica. D.faults replica.disk ≡ D.faults file.disk) }
     ensures unread { has_ledger file.state.log ≡ true → source.new ≡ source.old }
+    ensures source_quiet { ((back : D) → result ≢ Err (NodeError.SourceFailed, back)) →
+        S.faults source.new ≡ S.faults source.old }
     ensures ended { has_ledger file.state.log ≡ false →
         IfOk result (λ replica. S.ended source.new ≡ true) }
     ensures ended_refused { (fault : OpeningFault) (back : D) →
@@ -145,7 +149,7 @@ fn begin<S: Source, D: Disk + Drop>(
         Rose (D.faults file.disk) (D.faults back) }
     ensures spent { IsTrue D.honest → IfOk result (λ replica.
         KeepsLeaves goes_on_ledger file.state (D.bytes replica.disk)) }
-    ensures any_moment { IsTrue D.honest → Leaves (KeepsLeaves goes_on_ledger file.state)
+    ensures any_moment { IsTrue D.honest → Leaves (KeepsOpening file.state)
         (D.past file.disk) (D.past (disk_after result)) }
 {
     if file.ledger_len() > 0 {
@@ -167,13 +171,15 @@ fn open<S: Source, D: Disk + Drop>(
 ) -> Result<Replica<D, StoreBook>, (NodeError, D)>
     ensures begins { IfOk result (λ replica. OfOpened D.honest (D.bytes disk) (λ opens.
         OfBytes (S.left source.old) (λ given.
-        BeginsBy D.honest D.bytes D.past D.faults opens given replica))) }
+        BeginsBy D.honest D.bytes D.past D.faults opens given replica
+        × (HasLedger opens ⊎ (S.ended source.new ≡ true))))) }
     ensures refused { (fault : OpeningFault) (back : D) →
         result ≡ Err (NodeError.Refused fault, back) →
         OfOpened D.honest (D.bytes disk) (λ opens. OfBytes (S.left source.old) (λ given.
         beginning_of opens given ≡ Err fault)) }
-    ensures ended { IfOk result (λ replica. OfOpened D.honest (D.bytes disk) (λ opens.
-        HasLedger opens ⊎ (S.ended source.new ≡ true))) }
+    ensures unbegun { IsTrue D.honest → (why : NodeError) (back : D) → result ≡ Err (why, back) →
+        why ≢ NodeError.DiskFailed → why ≢ NodeError.Memory →
+        OpensAsBefore (D.bytes disk) (D.bytes back) }
     ensures going { IfOk result (λ replica. replica.stopped ≡ None) }
     ensures foreign { IsTrue D.honest → IsForeign (opened (D.bytes disk)) →
         Leaves (IsImage (D.past disk)) (D.past disk) (D.past (disk_after result)) }
@@ -182,6 +188,8 @@ fn open<S: Source, D: Disk + Drop>(
         D.bytes back ≡ D.bytes disk }
     ensures unread { IsTrue D.honest → NeedsNoSource (opened (D.bytes disk)) →
         source.new ≡ source.old }
+    ensures source_quiet { ((back : D) → result ≢ Err (NodeError.SourceFailed, back)) →
+        S.faults source.new ≡ S.faults source.old }
     ensures source_failed { (back : D) → result ≡ Err (NodeError.SourceFailed, back) →
         Rose (S.faults source.old) (S.faults source.new) }
     ensures disk_failed { (back : D) → result ≡ Err (NodeError.DiskFailed, back) →
@@ -191,7 +199,8 @@ fn open<S: Source, D: Disk + Drop>(
         × (opened (D.bytes disk) ≡ Ok d)
         × KeepsLeaves goes_on_ledger d (D.bytes replica.disk)) }
     ensures any_moment { IsTrue D.honest → HasGate journal_header (D.bytes disk) →
-        MovesNode (D.bytes disk) (D.past disk) (D.past (disk_after result)) }
+        Leaves (IsUnserved (D.bytes disk) (D.past disk)) (D.past disk)
+        (D.past (disk_after result)) }
 {
     match NodeFile::open(alloc, disk) {
         Ok(file) => begin(alloc, source, file),
@@ -304,6 +313,9 @@ pub fn run_node<S: Source, K: Sink, D: Disk + Drop, L: Link, O: Observer>(
       sink = sink_run K.holds K.faults sink.old sink.new;
       disk = disk_run D.honest D.bytes D.past D.faults disk result.1;
     }) (link_run L.honest L.past L.inward link.old link.new) result.0 }
+    ensures quiet { result.0 ≢ Ending.SourceFailed → S.faults source.new ≡ S.faults source.old }
+    ensures link_quiet { result.0 ≢ Ending.LinkFailed →
+        (L.inward link.new).faults ≡ (L.inward link.old).faults }
     ensures foreign { IsTrue D.honest → IsForeign (opened (D.bytes disk)) →
         Leaves (IsImage (D.past disk)) (D.past disk) (D.past result.1) }
     ensures foreign_bytes { IsTrue D.honest → IsForeign (opened (D.bytes disk)) →

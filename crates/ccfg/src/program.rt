@@ -18,10 +18,10 @@ ghost use Rattle.gl_schedule.specs.Moments.{KeepsHeadline, PrintsMoments};
 ghost use Rattle.gl_entry.specs.SourceBytes.{OfBytes};
 ghost use Rattle.ccfg.specs.Commands.{Does, ReportsFault};
 ghost use Rattle.ccfg.specs.Exits.{ExitsByDisk};
-ghost use Rattle.ccfg.specs.ExpectedOutput.{exit_status, key_kind, leaf_use, output_of, uses_disk};
+ghost use Rattle.ccfg.specs.ExpectedOutput.{PrintsFaultPrefix, exit_status, key_kind, leaf_use, output_of, uses_disk};
 ghost use Rattle.ccfg.specs.Plans.{IsUntouched, KeepsKey, MovesByLeaf, MovesToKey, OpensAsBefore, SpendsLeaf};
 ghost use Rattle.ccfg.specs.Run.{disk_run, link_run, sink_run, source_run};
-ghost use Rattle.ccfg.specs.SignCommand.{HasNoKey, IsForeign, PrintsFaultPrefix};
+ghost use Rattle.ccfg.specs.SignCommand.{HasNoKey, IsForeign};
 ghost use Rattle.ccfg.specs.VerifyCommand.{PrintsAccepted};
 ghost use Rattle.gl_schedule.specs.Schedules.{reads};
 ghost use Rattle.gl_commands.specs.Words.{asked};
@@ -53,6 +53,10 @@ fn execute<S: Source, K: Sink, D: Disk>(
     ensures kept { result.0 ≡ Done → IsTrue D.honest → (kind : KeyKind) (types : Types)
         → task.now ≡ Keygen kind types → OfBytes (S.left source.old)
         (KeepsKey kind types (D.past result.1)) }
+    ensures shown { IsTrue D.honest → (result.0 ≡ SinkFailed) ⊎ (result.0 ≡ Memory)
+        → (kind : KeyKind) (types : Types) → task.now ≡ Keygen kind types
+        → OfBytes (S.left source.old) (KeepsKey kind types (D.past result.1))
+        ⊎ PrintsFaultPrefix (K.holds sink.old) (K.holds sink.new) }
     ensures not_empty { IsTrue D.honest → 0 < length (D.bytes disk) → (kind : KeyKind)
         (types : Types) → task.now ≡ Keygen kind types
         → IsUntouched D.bytes D.past disk result.1 }

@@ -10,7 +10,7 @@ returns-in-Ok-clause-begins g c =
     let s = started.0 in
     let e = started.1 in
     let some : c.args.given.now ≢ [] = search rules in
-    (opened_by s c.args.file.state, begins_with c.args.file.state c.args.given.now s c.requires.none some e (c.in-Ok.ensures.fits s e), record { stands = c.in-Ok.ensures.stands s e; going = c.in-Ok.ensures.serves; keeps = λ honest. c.in-Ok.ensures.kept honest s e; only = λ honest. c.in-Ok.ensures.after honest s e })
+    (opened_by s c.args.file.state, begins_with c.args.file.state c.args.given.now s c.requires.none some e (c.in-Ok.ensures.fits s e), record { stands = c.in-Ok.ensures.stands s e; going = c.in-Ok.ensures.serves; keeps = λ honest. c.in-Ok.ensures.kept honest s e; at_rest = λ honest. c.in-Ok.ensures.at_rest honest s e })
 
 pub returns-in-Err-clause-refused : goal.returns-in-Err-clause-refused
 returns-in-Err-clause-refused g c fault back e =
@@ -34,22 +34,22 @@ returns-in-Err-clause-untouched g c honest why back e other =
 pub returns-in-Ok-clause-spent : goal.returns-in-Ok-clause-spent
 returns-in-Ok-clause-spent g c honest =
     let started = from_ok _ c.in-Ok.ensures.start in
-    keeps_opening started.0 c.args.file.state _ (c.in-Ok.ensures.kept honest started.0 started.1)
+    keeps_opening started.0 c.args.file.state _ _ (c.in-Ok.ensures.at_rest honest started.0 started.1) (c.in-Ok.ensures.kept honest started.0 started.1)
 
 pub returns-in-Ok-clause-any_moment : goal.returns-in-Ok-clause-any_moment
 returns-in-Ok-clause-any_moment g c honest =
     let started = from_ok _ c.in-Ok.ensures.start in
-    opening_moments started.0 c.args.file.state _ _ (c.in-Ok.ensures.any_moment honest started.0 started.1)
+    opening_moments started.0 c.args.file.state _ _ c.requires.none (c.in-Ok.ensures.any_moment honest started.0 started.1)
 
 pub returns-in-Err-clause-any_moment : goal.returns-in-Err-clause-any_moment
 returns-in-Err-clause-any_moment g c honest =
     by_stop c.stop_of.result _
     (λ failed. let started = from_ok _ (c.in-Err.ensures.opening_first c.in-Err.disk (search (rules, c.stop_of.ensures.disk_failed failed))) in
-    opening_moments started.0 c.args.file.state _ _ (c.in-Err.ensures.any_moment_err honest started.0 started.1))
-    (λ other. reopened_moments c.args.file.state _ _ (c.requires.only honest)
+    opening_moments started.0 c.args.file.state _ _ c.requires.none (c.in-Err.ensures.any_moment_err honest started.0 started.1))
+    (λ other. reopened_moments c.args.file.state (g.D.Disk.bytes c.args.file.disk) _ _ (c.requires.at_rest honest) (c.requires.kept honest)
     (c.in-Err.ensures.stays honest c.in-Err.error c.in-Err.disk refl (λ is. other (c.stop_of.ensures.disk is))).1)
 
 pub returns-then-is_empty-clause-any_moment : goal.returns-then-is_empty-clause-any_moment
 returns-then-is_empty-clause-any_moment g c honest =
-    reopened_moments c.args.file.state _ _ (c.requires.only honest)
+    reopened_moments c.args.file.state (g.D.Disk.bytes c.args.file.disk) _ _ (c.requires.at_rest honest) (c.requires.kept honest)
     (ap g.D.Disk.past (reopened_disk c.reopen.result c.args.file.disk c.reopen.ensures.same c.reopen.ensures.err))

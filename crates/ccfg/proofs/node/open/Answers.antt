@@ -1,4 +1,4 @@
-use Rattle.std.proofs.Common.{◌≡◌, ◌≢◌, inl, inr, ⊎_elim, Result, Ok, Err, arith, refl, rules, sym, ap, ◌∙◌}
+use Rattle.std.proofs.Common.{◌≡◌, ◌≢◌, ⊎_elim, Result, Ok, Err, refl, rules, sym, ap, ◌∙◌}
 use Rattle.gl_base.specs.declared.or_no_memory.OrNoMemory.TheVariants as stops
 use Rattle.gl_entry.specs.SourceBytes.{OfBytes}
 use Rattle.gl_journal.specs.Durable.{Durable}
@@ -10,16 +10,16 @@ use Rattle.gl_store_book.specs.NodeFile.{opened}
 use Rattle.gl_store_book.specs.declared.node_file.fault.OpeningFault.TheVariants as faults
 use Rattle.ccfg.specs.Nodes.{beginning_of}
 use Rattle.ccfg.specs.declared.node.NodeError.TheVariants as NodeError
-use Rattle.ccfg.proofs.Beginnings.{of_honest, begins_of, by_bytes, by_opened, any_bytes, has_one, ledger_or_end, not_foreign, ok_map, of_kind, other_kind}
-use Rattle.ccfg.proofs.NodeMoments.{later_moments, opened_moments}
+use Rattle.ccfg.proofs.Beginnings.{of_honest, begins_of, by_bytes, by_opened, any_bytes, has_one, ledger_or_end, not_foreign, ok_both, ok_map, of_kind, opens_as, opens_none, other_kind}
+use Rattle.ccfg.proofs.NodeMoments.{beginning_moments, opened_moments, refused_only}
 use Rattle.ccfg.proofs.node.open.Goals as goal
 
 pub returns-in-Ok-clause-begins : goal.returns-in-Ok-clause-begins
 returns-in-Ok-clause-begins g c =
     let d = c.in-Ok.file.state in
-    ok_map c.begin.result (λ replica h. by_opened g.D.Disk.honest (g.D.Disk.bytes c.args.disk) (Ok d) _ c.in-Ok.ensures.durable
-    (by_bytes (g.S.Source.left c.args.source.now) (λ given b. record { state = d; found = refl; start = b.0; begins = begins_of d given (Ok b.0) c.in-Ok.ensures.kind b.1; began = b.2 }) h))
-    c.begin.ensures.begins
+    ok_map c.begin.result (λ replica both. by_opened g.D.Disk.honest (g.D.Disk.bytes c.args.disk) (Ok d) _ c.in-Ok.ensures.durable
+    (by_bytes (g.S.Source.left c.args.source.now) (λ given b. (record { state = d; found = refl; start = b.0; begins = begins_of d given (Ok b.0) c.in-Ok.ensures.kind b.1; began = b.2 }, both.1)) both.0))
+    (ok_both _ _ c.begin.result c.begin.ensures.begins (ledger_or_end c.begin.result d _ c.begin.ensures.ended))
 
 pub returns-in-Ok-clause-refused : goal.returns-in-Ok-clause-refused
 returns-in-Ok-clause-refused g c fault back e =
@@ -50,18 +50,41 @@ returns-in-Err-clause-refused g c fault back e =
     (Ok (of_kind h.0)) (any_bytes left (λ given. other_kind (of_kind h.0) given h.0 refl kinds_are.1 ∙ ap Err (sym h.1))))
     (ends.only fault c.in-Err.disk (search (rules, error_is)))
 
-pub returns-in-Ok-clause-ended : goal.returns-in-Ok-clause-ended
-returns-in-Ok-clause-ended g c =
-    ledger_or_end c.begin.result _ _ c.in-Ok.file.state _ c.in-Ok.ensures.durable c.begin.ensures.ended
-
 pub returns-in-Ok-clause-spent : goal.returns-in-Ok-clause-spent
 returns-in-Ok-clause-spent g c honest =
     ok_map c.begin.result (λ replica keeps. (c.in-Ok.file.state, c.in-Ok.ensures.durable honest, keeps)) (c.begin.ensures.spent honest)
 
 pub returns-in-Ok-clause-any_moment : goal.returns-in-Ok-clause-any_moment
 returns-in-Ok-clause-any_moment g c honest gate =
-    later_moments (g.D.Disk.bytes c.args.disk) _ _ _ c.in-Ok.file.state c.in-Ok.file.state (c.in-Ok.ensures.durable honest) refl (omega arith)
+    beginning_moments (g.D.Disk.bytes c.args.disk) _ _ _ c.in-Ok.file.state (c.in-Ok.ensures.durable honest)
     (opened_moments (g.D.Disk.bytes c.args.disk) _ _ (c.in-Ok.ensures.any_moment honest gate)) (c.begin.ensures.any_moment honest)
+
+pub returns-in-Ok-clause-unbegun : goal.returns-in-Ok-clause-unbegun
+returns-in-Ok-clause-unbegun g c honest why back is other more =
+    let same = c.begin.ensures.untouched honest why back is other in
+    opens_as (g.D.Disk.bytes c.args.disk) (g.D.Disk.bytes back) c.in-Ok.file.state (c.in-Ok.ensures.durable honest) (ap opened same.0 ∙ c.in-Ok.ensures.kept honest)
+
+pub returns-in-Err-clause-unbegun : goal.returns-in-Err-clause-unbegun
+returns-in-Err-clause-unbegun g c honest why back is other more =
+    let why_is : c.stop_of.result ≡ why = search (rules, is) in
+    let back_is : c.in-Err.disk ≡ back = search (rules, is) in
+    let refusal = refused_only c.stop_of.result c.stop_of.ensures.no_source (λ failed. other (sym why_is ∙ failed)) (λ memory. more (sym why_is ∙ memory)) in
+    let fault = refusal.0 in
+    let printed = c.stop_of.ensures.refused fault refusal.1 in
+    let ends = c.in-Err.ensures in
+    let error_is : c.in-Err.error ≡ stops.Fault fault = printed.0 in
+    let held = g.D.Disk.bytes c.args.disk in
+    ⊎_elim
+    (λ (h : (reason : JournalFault) × (fault ≡ faults.Journal reason)).
+    opens_none held (g.D.Disk.bytes back) h.0
+    (ends.damaged honest h.0 c.in-Err.disk (search (rules, error_is, h.1)) (λ w. printed.1 (h.1 ∙ ap faults.Journal w))))
+    (λ (h : (got : KeyKind) × (fault ≡ faults.KeyKind kinds.Node got)).
+    let k = ends.key_kind honest kinds.Node h.0 c.in-Err.disk (search (rules, error_is, h.1)) in
+    opens_as held (g.D.Disk.bytes back) k.0 k.1 (ap (λ (v : g.row.D.Denot). opened (g.D.Disk.bytes v)) (sym back_is) ∙ k.3))
+    (ends.only fault c.in-Err.disk (search (rules, error_is)))
+
+pub returns-in-Err-clause-source_quiet : goal.returns-in-Err-clause-source_quiet
+returns-in-Err-clause-source_quiet g c none = refl
 
 pub returns-in-Err-clause-any_moment : goal.returns-in-Err-clause-any_moment
 returns-in-Err-clause-any_moment g c honest gate =

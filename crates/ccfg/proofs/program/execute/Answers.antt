@@ -2,7 +2,7 @@ use Rattle.std.proofs.Common.{Err, ap, ◌∙◌, inr, rules}
 use Rattle.ccfg.specs.ExpectedOutput.{output_of}
 use Rattle.ccfg.specs.Run.{disk_run, sink_run, source_run}
 use Rattle.ccfg.specs.declared.fault.Fault.TheVariants.{TooMuchJson}
-use Rattle.ccfg.proofs.ExpectedOutputLaws.{kept, output_runs, spent, spent_or_refused, stop_runs}
+use Rattle.ccfg.proofs.ExpectedOutputLaws.{kept, kept_or_refused, output_runs, spent, spent_or_refused, stop_runs}
 use Rattle.ccfg.proofs.program.execute.Goals as goal
 
 pub returns-in-Ok-clause-runs : goal.returns-in-Ok-clause-runs
@@ -38,3 +38,10 @@ returns-in-Ok-clause-spent g c = λ honest is leaf asks.
 
 pub returns-in-Err-clause-spent : goal.returns-in-Err-clause-spent
 returns-in-Err-clause-spent g c = λ honest is leaf asks. inr (TooMuchJson, search rules)
+
+pub returns-in-Ok-clause-shown : goal.returns-in-Ok-clause-shown
+returns-in-Ok-clause-shown g c = λ honest is kind types asks.
+    kept_or_refused kind types _ c.in-Ok.plan _ _ _ (rw c.in-Ok.is at (c.read_plan-plan.ensures.kept honest kind types asks)) c.carry_out.ensures is
+
+pub returns-in-Err-clause-shown : goal.returns-in-Err-clause-shown
+returns-in-Err-clause-shown g c = λ honest is kind types asks. inr (TooMuchJson, search rules)

@@ -16,7 +16,7 @@ returns-in-Ok-Task-clause-command g c command asks =
     let found : asked (map string_bytes c.args.words.now) ≡ Ok (asks_for.Task c.in-Ok-Task.task) = search (rules, c.in-Ok-Task.ensures.found) in
     let h = c.execute.ensures in
     as_asked _ _ _ (asked (map string_bytes c.args.words.now)) (asks_for.Task c.in-Ok-Task.task) command found asks
-    (task_does _ _ c.in-Ok-Task.task h.disk h.accepted h.kept h.not_empty h.unread h.untouched h.moves_to_key h.signed h.spent h.any_moment h.unspent h.foreign h.foreign_bytes h.unread_key h.runs, h.quiet, refl)
+    (task_does _ _ c.in-Ok-Task.task h.disk h.accepted h.kept h.shown h.not_empty h.unread h.untouched h.moves_to_key h.signed h.spent h.any_moment h.unspent h.foreign h.foreign_bytes h.unread_key h.runs, h.quiet, refl)
 
 pub returns-in-Ok-Node-clause-words : goal.returns-in-Ok-Node-clause-words
 returns-in-Ok-Node-clause-words g c kinds is =
@@ -28,7 +28,7 @@ returns-in-Ok-Node-clause-command g c command asks =
     let found : asked (map string_bytes c.args.words.now) ≡ Ok (asks_for.Node c.in-Ok-Node.node) = search (rules, c.in-Ok-Node.ensures.found) in
     let h = c.run_node.ensures in
     as_asked _ _ _ (asked (map string_bytes c.args.words.now)) (asks_for.Node c.in-Ok-Node.node) command found asks
-    (record { exact = h.runs; any_moment = h.any_moment; foreign = h.foreign; foreign_bytes = h.foreign_bytes; unread = h.unread })
+    (record { exact = h.runs; any_moment = h.any_moment; foreign = h.foreign; foreign_bytes = h.foreign_bytes; unread = h.unread }, h.quiet, h.link_quiet)
 
 pub returns-in-Ok-Load-clause-words : goal.returns-in-Ok-Load-clause-words
 returns-in-Ok-Load-clause-words g c kinds is =

@@ -1,0 +1,8 @@
+use Rattle.std.proofs.Common.{◌≡◌, None}
+use Rattle.gl_snapshot_body.specs.Parsing.{repeated_at, start_at}
+use Rattle.gl_snapshot_body.proofs.Loop.{suffix}
+use Rattle.gl_snapshot_body.proofs.decode.read_starts.Given as goal
+
+-- what was read and what is still to be read make the whole
+abbrev pub invariant-loop : goal.invariant-loop
+invariant-loop l = suffix (start_at l.base) l.starts.items l.count l.counter l.cut ≡ repeated_at (start_at l.base) None l.count l.fn.cut

@@ -1,6 +1,6 @@
 //! The tests of the libraries of data: tables, entries and their files, the forms of JSON,
-//! messages, receipts and attempts, a module for each. They stand here, over the libraries, since a
-//! library with tests of its own is proved once more with them.
+//! messages, receipts, the bodies of snapshots and attempts, a module for each. They stand here,
+//! over the libraries, since a library with tests of its own is proved once more with them.
 #![tactic(auto)]
 
 #[cfg(test)]
@@ -15,6 +15,8 @@ mod ledger_file;
 mod messages;
 #[cfg(test)]
 mod receipt;
+#[cfg(test)]
+mod snapshot_body;
 #[cfg(test)]
 mod tables;
 #[cfg(test)]

@@ -62,7 +62,7 @@ fn seen(tables: &Tables, key: &[u8]) -> (u64, bool) {
 }
 
 /// Writes a = 01 at place 1, b = 02 at 2, and the removal of a at 3.
-fn three_writes(alloc: Global) -> Result<Tables, Fail>
+pub(crate) fn three_writes(alloc: Global) -> Result<Tables, Fail>
     ensures { IfOk result (λ tables. tables.compacted ≡ 0) }
 {
     let mut tables = Tables::new(alloc);

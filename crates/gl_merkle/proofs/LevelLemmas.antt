@@ -12,12 +12,12 @@ use Rattle.gl_merkle.proofs.PeakLemmas.{unpaired-even, unpaired-odd, drop-unpair
 
 -- ---- one node more
 
-pairs_of-push_even : (ls : List (List ℕ)) (x : List ℕ) → length ls % 2 ≡ 0 → pairs_of (ls ++ x ∷ []) ≡ pairs_of ls
+pub pairs_of-push_even : (ls : List (List ℕ)) (x : List ℕ) → length ls % 2 ≡ 0 → pairs_of (ls ++ x ∷ []) ≡ pairs_of ls
 pairs_of-push_even [] x e = refl
 pairs_of-push_even (y ∷ []) x e = absurd (omega arith)
 pairs_of-push_even (y ∷ z ∷ ls) x e = ap (λ r. inner_of y z ∷ r) (pairs_of-push_even ls x (omega arith))
 
-pairs_of-push_odd : (ls : List (List ℕ)) (x : List ℕ) → length ls % 2 ≡ 1 → pairs_of (ls ++ x ∷ []) ≡ pairs_of ls ++ inner_of (get_or ls (length ls - 1) []) x ∷ []
+pub pairs_of-push_odd : (ls : List (List ℕ)) (x : List ℕ) → length ls % 2 ≡ 1 → pairs_of (ls ++ x ∷ []) ≡ pairs_of ls ++ inner_of (get_or ls (length ls - 1) []) x ∷ []
 pairs_of-push_odd [] x e = absurd (omega arith)
 pairs_of-push_odd (y ∷ []) x e = refl
 pairs_of-push_odd (y ∷ z ∷ ls) x e =
@@ -71,7 +71,7 @@ AreSized-cut_to (r ∷ rs) b m n low high h =
 
 -- ---- a base
 
-last_of-push : (ps qs : List (List ℕ)) (z : List ℕ) → ps ≡ qs ++ z ∷ [] → (get_or ps (length ps - 1) [] ≡ z) × (take (length ps - 1) ps ≡ qs)
+pub last_of-push : (ps qs : List (List ℕ)) (z : List ℕ) → ps ≡ qs ++ z ∷ [] → (get_or ps (length ps - 1) [] ≡ z) × (take (length ps - 1) ps ≡ qs)
 last_of-push ps qs z e =
     let size : length qs ≡ length ps - 1 = omega (arith, ap length e, length-append qs (z ∷ [])) in (
       ap (λ (r : List (List ℕ)). get_or r (length ps - 1) []) e ∙ get_or_at qs z [] [] (length ps - 1) size,

@@ -7,3 +7,4 @@ pub mod WriteLemmas
 pub mod FrontierLemmas
 pub mod ReachLemmas
 pub mod ContentLemmas
+pub mod MorePeaks

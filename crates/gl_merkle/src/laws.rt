@@ -1,11 +1,11 @@
 //! What holds of every tree, as the contracts of functions that do nothing.
 
-ghost use Rattle.std.specs.Prelude.{◌≡◌, ◌≢◌, ℕ, ◌+◌, ◌*◌, ◌-◌, ◌^◌, ◌<◌, ◌≤◌, List, [], ◌∷◌, length, take, drop, slice_index_or, count_ones, All};
+ghost use Rattle.std.specs.Prelude.{◌≡◌, ◌≢◌, ℕ, ◌+◌, ◌*◌, ◌-◌, ◌^◌, ◌<◌, ◌≤◌, List, [], ◌∷◌, ◌++◌, length, take, drop, slice_index_or, count_ones, All};
 ghost use Rattle.gl_merkle.specs.declared.tree.Step.{Step};
 ghost use Rattle.gl_merkle.specs.Tree.{inner_of, root_of};
 ghost use Rattle.gl_merkle.specs.Path.{path_of, climb_of};
 ghost use Rattle.gl_merkle.specs.Collision.{HaveSameSides, Collide};
-ghost use Rattle.gl_merkle.specs.Peaks.{peaks_of, root_of_peaks};
+ghost use Rattle.gl_merkle.specs.Peaks.{peaks_of, peaks_over, root_of_peaks};
 ghost use Rattle.gl_merkle.specs.Reach.{IsDigest, sibling_of, IsReached};
 
 /// The tree is the one of the standard: one leaf is its own root, and several are split at the
@@ -39,6 +39,14 @@ pub fn law_of_peaks()
         length (peaks_of leaves) ≡ count_ones (length leaves) }
     ensures root { (leaves : List (List ℕ)) → 0 < length leaves →
         root_of leaves ≡ root_of_peaks (peaks_of leaves) }
+{}
+
+/// The peaks of leaves with more after them follow from the peaks of the first and how many those
+/// are. So does the root, which is that of the peaks, where there is no leaf too.
+pub fn law_of_more_leaves()
+    ensures peaks { (leaves more : List (List ℕ)) →
+        peaks_of (leaves ++ more) ≡ peaks_over (length leaves) (peaks_of leaves) more }
+    ensures root { (leaves : List (List ℕ)) → root_of leaves ≡ root_of_peaks (peaks_of leaves) }
 {}
 
 /// A way that ends at the root of a list of leaves is the path of one of them, or two inputs of the

@@ -9,7 +9,9 @@
 #![tactic(auto)]
 
 pub use frontier::Frontier;
-pub use laws::{law_of_climb, law_of_collision, law_of_peaks, law_of_reaching, law_of_split};
+pub use laws::{
+    law_of_climb, law_of_collision, law_of_more_leaves, law_of_peaks, law_of_reaching, law_of_split,
+};
 pub use tree::{Step, climb, path, root};
 
 mod frontier;

@@ -17,3 +17,4 @@ pub mod RowsLaws
 pub mod SameValues
 pub mod WriteSets
 pub mod Changes
+pub mod RowsOverLaws

@@ -158,7 +158,7 @@ pub is_ordered-rest : (x : Write) (xs : List Write) → is_ordered (x ∷ xs) �
 is_ordered-rest x xs ordered = (and_parts (stands_before x.map x.key xs) (is_ordered xs) ordered).1
 
 -- after a write to a row no other is to it
-no_other : (map key : List ℕ) (w : Write) (ws : List Write) → AllByRecursion (λ y. write_order w y ≡ Less) ws → is_to_row map key w ≡ true → last_write map key ws ≡ None
+pub no_other : (map key : List ℕ) (w : Write) (ws : List Write) → AllByRecursion (λ y. write_order w y ≡ Less) ws → is_to_row map key w ≡ true → last_write map key ws ≡ None
 no_other map key w [] all is = refl
 no_other map key w (y ∷ ys) all is =
     last_such-cons (is_to_row map key) y ys ∙ rw (no_other map key w ys all.1 is, other_row map key w y all.0 is) refl
@@ -194,7 +194,7 @@ last_write-find map key (w ∷ ws) ordered =
 
 -- ---- one more write, as tables see it
 
-first_of_all : (map key : List ℕ) (w : Write) (ws : List Write) → AllByRecursion (λ y. write_order w y ≡ Less) ws →
+pub first_of_all : (map key : List ℕ) (w : Write) (ws : List Write) → AllByRecursion (λ y. write_order w y ≡ Less) ws →
     last_write map key (w ∷ ws) ≡ (if is_to_row map key w then Some w else last_write map key ws)
 first_of_all map key w ws all = last_such-cons (is_to_row map key) w ws ∙ only_one (is_to_row map key w) (last_write map key ws) w (no_other map key w ws all)
 

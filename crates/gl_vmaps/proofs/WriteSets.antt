@@ -44,7 +44,7 @@ wrote_all-rows s t [] map same = same
 wrote_all-rows s t (w ∷ ws) map same =
     wrote_all-rows (wrote s w) (wrote t w) ws map (ap (λ (r : Rows). if same_bytes map w.map then with_row r w.key w.value else r) same)
 
-wrote_all-set_from : (t : Tables) (set ws : List Write) (map : List ℕ) → is_ordered set ≡ true → wrote_all t (set_from set ws) map ≡ wrote_all (wrote_all t set) ws map
+pub wrote_all-set_from : (t : Tables) (set ws : List Write) (map : List ℕ) → is_ordered set ≡ true → wrote_all t (set_from set ws) map ≡ wrote_all (wrote_all t set) ws map
 wrote_all-set_from t set [] map ordered = refl
 wrote_all-set_from t set (w ∷ ws) map ordered =
     wrote_all-set_from t (with_write set w) ws map (is_ordered-with_write set w ordered)

@@ -1,6 +1,7 @@
 -- Rows as they stand, each with its value: what tables at a base begin with.
-use Rattle.std.specs.Prelude.{◌≡◌, ℕ, ◌<◌, ◌≤◌, List, Some, Bool, map, filter, nat_lt}
+use Rattle.std.specs.Prelude.{◌≡◌, ℕ, ◌<◌, ◌≤◌, List, Option, Some, Bool, map, filter, filter_map, option_map, nat_lt}
 use Rattle.std.specs.List.{AllByRecursion}
+use Rattle.gl_vmaps.specs.Changes.{set_from}
 use Rattle.gl_vmaps.specs.Tables.{Tables, no_tables, wrote_all, value_in}
 use Rattle.gl_vmaps.specs.Versions.{Placed}
 use Rattle.gl_vmaps.specs.Writes.{is_ordered}
@@ -26,6 +27,14 @@ tables_with rows = wrote_all no_tables (row_writes rows)
 abbrev pub AreRowsOf : List Row → Tables → Type 0
 AreRowsOf rows tables =
     (map key : List ℕ) → value_in (tables_with rows) map key ≡ value_in tables map key
+
+-- The row that a write leaves. One that is removed leaves none.
+abbrev pub row_left : Write → Option Row
+row_left w = option_map (λ value. record { map = w.map; key = w.key; value = value }) w.value
+
+-- The rows that writes leave where these rows stood before, ascending.
+abbrev pub rows_over : List Row → List Write → List Row
+rows_over rows ws = filter_map row_left (set_from (row_writes rows) ws)
 
 -- The writes above a place; and that all are at or below it, or above it.
 abbrev pub above : ℕ → List Placed → List Placed

@@ -48,6 +48,10 @@ map_version_in ps map = greatest_place (is_to_map map) ps
 abbrev pub up_to : ℕ → List Placed → List Placed
 up_to place ps = filter (λ (p : Placed). nat_le p.place place) ps
 
+-- What is written at or below a place.
+abbrev pub writes_up_to : ℕ → List Placed → List Write
+writes_up_to place ps = map (λ (p : Placed). p.write) (up_to place ps)
+
 -- No write has a place above that of one after it.
 abbrev pub AreRising : List Placed → Type 0
 AreRising [] = Unit {0}

@@ -1,12 +1,13 @@
 //! What holds of all tables at a base, as the contracts of functions that do nothing.
 
-ghost use Rattle.std.specs.Prelude.{◌≡◌, ℕ, List, ◌++◌, IsTrue};
+ghost use Rattle.std.specs.Prelude.{◌≡◌, ℕ, List, [], ◌++◌, IsTrue};
 ghost use Rattle.gl_vmaps.specs.Kept.{Kept, versions_of, value_of, tables_of, count_of};
-ghost use Rattle.gl_vmaps.specs.Rows.{row_writes, are_ascending, above, AreRowsOf, AreUpTo, AreAbove};
+ghost use Rattle.gl_vmaps.specs.Rows.{row_writes, are_ascending, tables_with, rows_over, above, AreRowsOf, AreUpTo, AreAbove};
 ghost use Rattle.gl_vmaps.specs.Standing.{versions_in};
-ghost use Rattle.gl_vmaps.specs.Tables.{Tables, value_in, size_of};
+ghost use Rattle.gl_vmaps.specs.Tables.{Tables, value_in, size_of, wrote_all};
 ghost use Rattle.gl_vmaps.specs.Versions.{Placed, placed_at, written_by, version_in, map_version_in};
 ghost use Rattle.gl_vmaps.specs.declared.row.Row.{Row};
+ghost use Rattle.gl_vmaps.specs.declared.write.Write.{Write};
 
 /// Tables at a base answer for every list of writes up to the base that makes their rows: values
 /// and sizes are those of that list with the later writes, versions are the places above the base.
@@ -41,4 +42,17 @@ pub fn law_of_rows()
     ensures determined { (rows others : List Row) (tables : Tables) →
         IsTrue (are_ascending rows) → IsTrue (are_ascending others) →
         AreRowsOf rows tables → AreRowsOf others tables → rows ≡ others }
+{}
+
+/// The rows that writes leave of rows in order are in order, and those of the tables that the
+/// writes make of the tables with the rows. No writes leave the rows as they were, and writes one
+/// after another leave what the later ones leave of the rows that the first left.
+pub fn law_of_rows_over()
+    ensures ascending { (rows : List Row) (ws : List Write) → IsTrue (are_ascending rows) →
+        IsTrue (are_ascending (rows_over rows ws)) }
+    ensures values { (rows : List Row) (ws : List Write) → IsTrue (are_ascending rows) →
+        AreRowsOf (rows_over rows ws) (wrote_all (tables_with rows) ws) }
+    ensures nothing { (rows : List Row) → rows_over rows [] ≡ rows }
+    ensures append { (rows : List Row) (ws vs : List Write) → IsTrue (are_ascending rows) →
+        rows_over rows (ws ++ vs) ≡ rows_over (rows_over rows ws) vs }
 {}

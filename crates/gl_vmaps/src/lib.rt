@@ -13,7 +13,7 @@ mod table;
 mod tables;
 mod write;
 
-pub use laws::{law_of_base, law_of_rows};
+pub use laws::{law_of_base, law_of_rows, law_of_rows_over};
 pub use name::{KEY_LIMIT, Key, MAP_NAME_LIMIT, MapName, VALUE_LIMIT, Value};
 pub use row::{Row, Rows};
 pub use table::Version;

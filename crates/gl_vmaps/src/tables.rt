@@ -87,11 +87,12 @@ fn value_in(version: &Version) -> Option<&[u8]>
 impl Tables {
     ghost use Rattle.std.specs.Prelude.{◌≡◌, ℕ, ◌<◌, ◌≤◌, ◌^◌, List, [], ◌++◌, IsTrue, IfSome, IfOk, OnOk, OnErr};
     ghost use Rattle.gl_vmaps.specs.Name.{is_value};
-    ghost use Rattle.gl_vmaps.specs.Rows.{row_writes, tables_with, AreRowsOf};
+    ghost use Rattle.gl_vmaps.specs.Rows.{row_writes, are_ascending, tables_with, rows_over, AreRowsOf};
     ghost use Rattle.gl_vmaps.specs.Kept.{Kept, versions_of, value_of, has_row, tables_of, count_of, version_of, map_version_of};
     ghost use Rattle.gl_vmaps.specs.Standing.{versions_in, value_up_to, StandsFor, HasApplied, HasCut, HasCompacted};
     ghost use Rattle.gl_vmaps.specs.Tables.{value_in, has_key, size_of};
-    ghost use Rattle.gl_vmaps.specs.Versions.{Placed, placed_at, written_by, version_in, map_version_in, up_to};
+    ghost use Rattle.gl_vmaps.specs.Versions.{Placed, placed_at, written_by, version_in, map_version_in, up_to, writes_up_to};
+    ghost use Rattle.gl_vmaps.specs.declared.row.Row.{Row};
 
     /// Tables without a row.
     pub fn new(alloc: Global) -> Self
@@ -229,6 +230,10 @@ impl Tables {
             AreRowsOf rows (tables_of cut)) }
         ensures stands { IfOk result (λ rows. (ps : List Placed) → StandsFor self.now ps →
             AreRowsOf rows (written_by (up_to to ps))) }
+        ensures behind { IfOk result (λ rows. (before : List Row) (ps : List Placed) →
+            IsTrue (are_ascending before) →
+            StandsFor self.now (placed_at 0 (row_writes before) ++ ps) →
+            rows ≡ rows_over before (writes_up_to to ps)) }
     {
         Ok(Rows::of(rows_of_maps(self.alloc, &self.maps, to)?))
     }

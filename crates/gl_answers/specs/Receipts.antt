@@ -8,6 +8,7 @@ use Rattle.gl_receipt.specs.Made.{Ledger}
 -- The ledger with its leaves and the service's keys, committed up to a seqno.
 abbrev pub receipts_of : List Entry → ℕ → Ledger
 receipts_of ledger commit = record {
+  base = 0;
   entries = ledger;
   leaves = leaves_of ledger;
   commit = commit;

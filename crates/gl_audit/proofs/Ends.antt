@@ -7,7 +7,7 @@ use Rattle.gl_entry.specs.Entry.{is_signature}
 use Rattle.gl_entry.specs.Leaf.{id_of}
 use Rattle.gl_entry.specs.declared.entry.Entry.{Entry}
 use Rattle.gl_ledger.specs.Recordings.{last_entry, begins}
-use Rattle.gl_ledger.specs.Broken.{last_signed, commit_after, commit_from, last_commit, is_unopened}
+use Rattle.gl_ledger.specs.Past.{commit_after, commit_from, is_unopened, last_commit, last_signed}
 use Rattle.gl_ledger.proofs.Signatures.{last_signature-push, last_signature-signed, last_is_signed}
 use Rattle.gl_audit.specs.Ends.{end_of, end_with}
 use Rattle.gl_audit.specs.Kept.{commit_at}

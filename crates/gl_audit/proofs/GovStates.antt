@@ -84,7 +84,7 @@ request_follows h rs r all same above fits founding none = record {
 -- a history with a request that follows, and with what it brings about, is a state
 pub state_recorded : (past next : History) (rs : List Recorded) (r : Recorded) (more : List Changed) → IsState past → past.requests ≡ rs → IsAbove r.seqno rs →
     is_request r.request ≡ true → is_founding r.request ≡ is_nothing rs → refusal (history rs) r.seqno r.request ≡ None →
-    more ≡ map (changed_at r.seqno) (changes_of past r) → next ≡ record { requests = past.requests ++ r ∷ []; changes = past.changes ++ more } → IsState next
+    more ≡ map (changed_at r.seqno) (changes_of past r) → next ≡ record { carried = past.carried; requests = past.requests ++ r ∷ []; changes = past.changes ++ more } → IsState next
 unfolding with_request
 state_recorded past next rs r more all same above fits founding none brought pushed =
     state_more past next r all (request_follows past rs r all same above fits founding none) (rw brought at pushed)

@@ -1,7 +1,7 @@
 -- The nodes that a ledger records, and the removals of those that are marked, by the history of its
 -- requests.
 use Rattle.std.proofs.Common.{◌≡◌, ℕ, suc, List, [], ◌∷◌, map, Option, Some, None, is_some, option_map, Bool, true, false, cond, find, nat_lt, nat_le, ◌||◌, ◌&&◌, slice_get, Bor, refl, sym, ◌∙◌, ap, ap₂, arith}
-use Rattle.std.specs.List.{list_all, list_any, filter_map}
+use Rattle.std.specs.List.{list_all, list_any}
 use Rattle.std.proofs.lemmas.Bool.{or_left, or_parts}
 use Rattle.std.proofs.lemmas.Bool.Decides.{nat_tests}
 use Rattle.gl_base.specs.Bytes.{same_bytes}
@@ -10,21 +10,21 @@ use Rattle.gl_rules.specs.Identity.{NodeId, same, member}
 use Rattle.gl_vmaps.proofs.TablesLaws.{same_bytes-symm}
 use Rattle.gl_entry.specs.declared.entry.Entry.{Entry}
 use Rattle.gl_gov_rules.specs.declared.change.Changed.{Changed}
-use Rattle.gl_gov_rules.specs.declared.change.Recorded.{Recorded}
 use Rattle.gl_gov_rules.specs.declared.change.RecordedNode.{RecordedNode}
 use Rattle.gl_gov_rules.specs.History.{History}
 use Rattle.gl_gov_rules.specs.Changes.{history}
 use Rattle.gl_gov_rules.specs.Governed.{IsGoverned}
 use Rattle.gl_gov_rules.specs.declared.request_facts.Mark.{Mark}
-use Rattle.gl_gov_rules.specs.RequestFacts.{mark_in}
-use Rattle.gl_gov_rules.specs.Index.{first_mark, marks_of, has_mark_after}
+use Rattle.gl_gov_rules.specs.Index.{marks_of, has_mark_after}
+use Rattle.gl_gov_rules.specs.Nodes.{first_mark}
 use Rattle.gl_gov_rules.specs.Nodes as nodes
-use Rattle.gl_gov_rules.proofs.HistoryIndex.{mark_first}
+use Rattle.gl_gov_rules.proofs.HistoryIndex as index
 use Rattle.gl_gov_rules.proofs.Counting.{find_passes}
 use Rattle.gl_gov_rules.proofs.NewNodes.{node_at}
 use Rattle.gl_ledger.specs.NodeKeys.{service_layers}
 use Rattle.gl_ledger.specs.Recordings.{requests_of, recorded_nodes, mark, removal}
-use Rattle.gl_ledger.specs.Broken.{is_above_removal, last_signed}
+use Rattle.gl_ledger.specs.Past.{last_signed}
+use Rattle.gl_ledger.specs.Broken.{is_above_removal}
 use Rattle.gl_ledger.proofs.Governed.{governed}
 use Rattle.gl_audit.specs.Kept.{IsStateOf}
 use Rattle.gl_audit.specs.declared.ledger_state.LedgerState.{LedgerState}
@@ -104,10 +104,10 @@ low_first id seqno commit removal (m ∷ ms) none =
     by false here rest = rest
 
 low_each : (past : History) (seqno commit : ℕ) → has_mark_after past seqno ≡ false → (n : RecordedNode) → above seqno commit past n ≡ true
-unfolding nodes.mark has_mark_after marks_of
+unfolding has_mark_after
 low_each past seqno commit none n =
-    ap (λ (o : Option ℕ). is_above_removal o (retired_at past n) seqno commit) (mark_first n.id past.requests)
-    ∙ low_first n.id seqno commit (retired_at past n) (filter_map (λ (r : Recorded). mark_in r.seqno r.request) past.requests) none
+    ap (λ (o : Option ℕ). is_above_removal o (retired_at past n) seqno commit) (index.mark_is past n.id)
+    ∙ low_first n.id seqno commit (retired_at past n) (marks_of past) none
 
 all_of : {A : Type 0} (p : A → Bool) → ((x : A) → p x ≡ true) → (xs : List A) → list_all p xs ≡ true
 all_of p each [] = refl

@@ -1,5 +1,5 @@
 -- The rules of the audit, by what a store keeps.
-use Rattle.std.proofs.Common.{◌≡◌, ◌&&◌, ℕ, ◌+◌, ◌-◌, ◌^◌, nat_le, nat_lt, ◌==◌, ◌||◌, not, List, [], ◌∷◌, length, Option, Some, None, Result, Ok, Err, IfOk, Bool, true, false, refl, sym, ◌∙◌, ap, subst, arith}
+use Rattle.std.proofs.Common.{◌≡◌, ◌&&◌, ℕ, ◌+◌, ◌-◌, ◌^◌, nat_le, nat_lt, ◌==◌, ◌||◌, not, List, [], ◌∷◌, length, Option, Some, None, Result, Ok, Err, IfOk, Bool, true, false, refl, sym, ◌∙◌, ap, subst, arith, option_map}
 use Rattle.std.proofs.lemmas.Bool.Decides.{nat_tests}
 use Rattle.gl_base.proofs.Lists.{slice_get-below}
 use Rattle.gl_rules.specs.Identity.{member}
@@ -23,6 +23,7 @@ use Rattle.gl_ledger.specs.Tree.{leaves_of}
 use Rattle.gl_requests.specs.Parsing.{request_in}
 use Rattle.gl_ledger.specs.NodeKeys.{service_layers}
 use Rattle.gl_ledger.specs.Recordings.{last_entry, begins, recording_of, governance_recording, application_recording, requests_of, recorded_nodes}
+use Rattle.gl_ledger.specs.Past.{last_of, past_of}
 use Rattle.gl_ledger.specs.Broken.{required}
 use Rattle.gl_rules.specs.World.{first_view}
 use Rattle.std.proofs.lemmas.Bool.{and_parts, not-true}
@@ -39,11 +40,11 @@ use Rattle.gl_audit.specs.declared.ledger_state.LedgerState.{LedgerState}
 -- what an entry records that none of its bytes encode, or that they do
 pub broken_unread : (ledger : List Entry) (e : Entry) → recording_of e.content ≡ None → broken service_layers ledger e ≡ Some (breach 1 (length ledger + 1) e)
 unfolding broken
-broken_unread ledger e is = ap (λ (o : Option Recording). broken_where service_layers o ledger e) is
+broken_unread ledger e is = ap (λ (o : Option Recording). broken_where service_layers o (past_of ledger) e) is
 
-pub broken_read : (ledger : List Entry) (e : Entry) (r : Recording) → recording_of e.content ≡ Some r → broken service_layers ledger e ≡ broken_where service_layers (Some r) ledger e
+pub broken_read : (ledger : List Entry) (e : Entry) (r : Recording) → recording_of e.content ≡ Some r → broken service_layers ledger e ≡ broken_where service_layers (Some r) (past_of ledger) e
 unfolding broken
-broken_read ledger e r is = ap (λ (o : Option Recording). broken_where service_layers o ledger e) is
+broken_read ledger e r is = ap (λ (o : Option Recording). broken_where service_layers o (past_of ledger) e) is
 
 several : (e : Entry) (es : List Entry) → (length (e ∷ es) == 0) ≡ false
 several e es = grind (arith, nat_tests)
@@ -63,21 +64,21 @@ nothing_kept ledger s k = ap governance.is_nothing k.governed ∙ nothing_is led
 -- where views and order let a request pass, it founds the service exactly where nothing of
 -- governance is recorded
 pub founding_asked : (ledger : List Entry) (s : LedgerState) (g : GovernanceRequest) (view : ℕ) → IsStateOf ledger s →
-    is_next_view (last_entry ledger) (recordings.Governance g) view ≡ true → is_in_order (last_entry ledger) (recordings.Governance g) view ≡ true →
+    is_next_view (past_of ledger).last (recordings.Governance g) view ≡ true → is_in_order (past_of ledger).last (recordings.Governance g) view ≡ true →
     governance.is_founding g ≡ governance.is_nothing s.gov
 founding_asked ledger s g view k next order = by_ledger ledger k.sound next order ∙ sym (ap governance.is_nothing k.governed)
   where
-    by_last : (last : Entry) → is_in_order (Some last) (recordings.Governance g) view ≡ true → governance.is_founding g ≡ false
+    by_last : (last : Entry) → is_in_order (option_map last_of (Some last)) (recordings.Governance g) view ≡ true → governance.is_founding g ≡ false
     by_last last order =
         let both = and_parts (not (governance.is_founding g) && (not (governance.is_recovery g) || is_signature last.content)) (not (begins last) || false) order in
         not-true (governance.is_founding g) (and_parts (not (governance.is_founding g)) (not (governance.is_recovery g) || is_signature last.content) both.0).0
 
-    by_ledger : (es : List Entry) → IsSound service_layers es → is_next_view (last_entry es) (recordings.Governance g) view ≡ true → is_in_order (last_entry es) (recordings.Governance g) view ≡ true →
+    by_ledger : (es : List Entry) → IsSound service_layers es → is_next_view (past_of es).last (recordings.Governance g) view ≡ true → is_in_order (past_of es).last (recordings.Governance g) view ≡ true →
         governance.is_founding g ≡ governance.is_nothing (requests_of es)
     by_ledger [] sound next order = (and_parts (governance.is_founding g) (view == first_view) next).0
     by_ledger (e ∷ es) sound next order =
         let last = slice_get-below (e ∷ es) (length (e ∷ es) - 1) (omega arith) in
-        by_last last.0 (ap (λ (o : Option Entry). is_in_order o (recordings.Governance g) view) (sym last.1) ∙ order) ∙ sym (nothing_is (e ∷ es) sound ∙ several e es)
+        by_last last.0 (ap (λ (o : Option Entry). is_in_order (option_map last_of o) (recordings.Governance g) view) (sym last.1) ∙ order) ∙ sym (nothing_is (e ∷ es) sound ∙ several e es)
 
 third : (a b c d f g i j k : Bool) → (a && b && c && d && f && g && i && j && k) ≡ true → c ≡ true
 third true true true d f g i j k h = refl
@@ -106,17 +107,17 @@ recorded_fits e g reads fits = by_content e.content reads (third (nat_lt e.view 
 
 -- rules 9 to 11, by the tests of them
 pub signature_asked : (ledger : List Entry) (s : signatures.Signature) (e : Entry) (recorded signed may : Bool) (root : List ℕ) → recorded ≡ member s.node (recorded_nodes ledger) →
-    root ≡ root_of (leaves_of ledger) → signed ≡ same_bytes s.root root → may ≡ may_record ledger s.commit →
-    broken_by_signature service_layers s ledger e
+    root ≡ root_of (leaves_of ledger) → signed ≡ same_bytes s.root root → may ≡ may_record (past_of ledger) s.commit →
+    broken_by_signature service_layers s (past_of ledger) e
     ≡ required recorded (breach 9 (length ledger + 1) e) (required signed (replay 9 (length ledger + 1) root s.root) (required may (breach 10 (length ledger + 1) e)
-    (broken_by_fault (length ledger + 1) (fault_of_signature service_layers ledger e s))))
+    (broken_by_fault (length ledger + 1) (fault_of_signature service_layers (past_of ledger) e s))))
 signature_asked ledger s e recorded signed may root pn pr ps pm =
     let same : signed ≡ same_bytes s.root (root_of (leaves_of ledger)) = ps ∙ ap (same_bytes s.root) pr in
     rw (pn, same, pr, pm) refl
 
 -- what breaks a rule by what it records breaks it by its bytes
 pub found_by : {E : Type 0} (s : LedgerState) (e : Entry) (r : Recording) (found : Result (Option Broken) E) → recording_of e.content ≡ Some r →
-    IfOk found (λ b. ForLedgers s (λ ledger. b ≡ broken_where service_layers (Some r) ledger e)) → IfOk found (λ b. ForLedgers s (λ ledger. b ≡ broken service_layers ledger e))
+    IfOk found (λ b. ForLedgers s (λ ledger. b ≡ broken_where service_layers (Some r) (past_of ledger) e)) → IfOk found (λ b. ForLedgers s (λ ledger. b ≡ broken service_layers ledger e))
 found_by s e r (Ok b) is all = λ ledger k. all ledger k ∙ sym (broken_read ledger e r is)
 found_by s e r (Err a) is all = tt
 

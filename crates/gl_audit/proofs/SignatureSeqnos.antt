@@ -12,8 +12,8 @@ use Rattle.gl_entry.specs.Entry.{is_signature, recorded_commit}
 use Rattle.gl_entry.specs.declared.entry.Content.{Content}
 use Rattle.gl_entry.specs.declared.entry.Content.TheVariants as content
 use Rattle.gl_entry.specs.declared.entry.Entry.{Entry}
-use Rattle.gl_ledger.specs.Broken.{last_signed, signs_at, commit_after, commit_from, last_commit}
 use Rattle.gl_audit.specs.Kept.{seqno_if, signed_from, signature_seqnos, commit_at}
+use Rattle.gl_ledger.specs.Past.{commit_after, commit_from, last_commit, last_signed, signs_at}
 
 -- the entry at a seqno, where there is one
 abbrev pub entry_if : List Entry → Option ℕ → Option Entry

@@ -13,6 +13,7 @@ pub record Held : Type 0 where
 -- What a store holds, as receipts see it.
 abbrev pub receipts_of : Held → Ledger
 receipts_of held = record {
+  base = 0;
   entries = held.ledger;
   leaves = leaves_of held.ledger;
   commit = held.commit;

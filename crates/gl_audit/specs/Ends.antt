@@ -5,7 +5,7 @@ use Rattle.gl_entry.specs.Entry.{is_signature}
 use Rattle.gl_entry.specs.Leaf.{id_of}
 use Rattle.gl_entry.specs.declared.entry.Entry.{Entry}
 use Rattle.gl_ledger.specs.Recordings.{last_entry, recording_of, begins}
-use Rattle.gl_ledger.specs.Broken.{last_signed, commit_after, last_commit, is_unopened}
+use Rattle.gl_ledger.specs.Past.{commit_after, is_unopened, last_commit, last_signed}
 use Rattle.gl_audit.specs.declared.ledger_end.LedgerEnd.{LedgerEnd}
 
 -- The entry's bytes encode what it records.

@@ -8,11 +8,11 @@ use Rattle.gl_entry.specs.Leaf.{id_of}
 use Rattle.gl_entry.specs.declared.entry.Entry.{Entry}
 use Rattle.gl_entry.specs.declared.fault.EntryFault.{EntryFault}
 use Rattle.gl_ledger.specs.Audit.{LedgerFault, audited}
-use Rattle.gl_ledger.specs.Broken.{last_signed}
 use Rattle.gl_ledger.specs.NodeKeys.{service_layers}
 use Rattle.gl_ledger.specs.Recordings.{last_entry}
 use Rattle.gl_ledger.specs.ServiceRow.{identity_in}
 use Rattle.gl_ledger.specs.Tree.{tables_of}
+use Rattle.gl_ledger.specs.Past.{last_signed}
 use Rattle.gl_entry.specs.LedgerFile.{LedgerFile, ledger_file}
 use Rattle.gl_audit.specs.declared.verdict.Verdict.{Verdict}
 use Rattle.gl_audit.specs.declared.verdict.Verdict.TheVariants as verdicts

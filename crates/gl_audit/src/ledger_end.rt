@@ -8,7 +8,7 @@ ghost use Rattle.gl_requests.specs.Parsing.{request_in};
 ghost use Rattle.gl_requests.specs.declared.request.GovernanceRequest.{GovernanceRequest as Request};
 ghost use Rattle.gl_gov_rules.specs.Governed.{is_founding, is_recovery};
 ghost use Rattle.gl_ledger.specs.Recordings.{begins, last_entry};
-ghost use Rattle.gl_ledger.specs.Broken.{commit_after, is_unopened, last_signed};
+ghost use Rattle.gl_ledger.specs.Past.{commit_after, is_unopened, last_signed};
 ghost use Rattle.gl_entry.specs.Leaf.{id_of};
 ghost use Rattle.gl_audit.specs.Ends.{IsRead, end_of, end_with, no_end};
 

@@ -27,7 +27,8 @@ use Rattle.gl_gov_rules.proofs.Endorsements.{endorsement_means}
 use Rattle.gl_gov_rules.proofs.FoundingAccepted.{accepted_parts, accepted_passes}
 use Rattle.gl_gov_rules.proofs.NewNodes.{nodes_new}
 use Rattle.gl_ledger.specs.Audit.{LedgerFault, audited, opened, opened_unless, opened_where, signer_of}
-use Rattle.gl_ledger.specs.Broken.{broken, is_unopened}
+use Rattle.gl_ledger.specs.Past.{is_unopened}
+use Rattle.gl_ledger.specs.Broken.{broken}
 use Rattle.gl_ledger.specs.Ledger.{genesis_entry, message_after, signature_entry}
 use Rattle.gl_ledger.specs.Makers.{MakesValid, signature_after}
 use Rattle.gl_ledger.specs.NodeKeys.{IsNodeKey, NodeKeys, service_layers}

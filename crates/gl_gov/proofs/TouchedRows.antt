@@ -1,6 +1,6 @@
 -- What a request changes of the rows is among those that it touches, so its write set is made of
 -- them.
-use Rattle.std.proofs.Common.{◌≡◌, ℕ, suc, List, [], ◌∷◌, ◌++◌, map, filter, filter_map, length, Option, None, Some, is_some, Bool, true, false, not, ◌||◌, ◌==◌, nat_lt, if◌then◌else◌, refl, sym, ◌∙◌, ap, ap₂, append-nil, arith}
+use Rattle.std.proofs.Common.{◌≡◌, ℕ, suc, List, [], ◌∷◌, ◌++◌, map, filter, filter_map, length, Option, None, Some, is_some, Bool, true, false, not, ◌||◌, ◌==◌, refl, sym, ◌∙◌, ap, ap₂, append-nil, arith, option_map}
 use Rattle.std.specs.List.{list_all, cons_option}
 use Rattle.std.specs.Cmp.Lexicographic.{bytes_decides}
 use Rattle.std.proofs.lemmas.Bool.{and_from, and_parts, or_parts, or_left, or_right}
@@ -17,13 +17,16 @@ use Rattle.gl_gov_rules.specs.declared.change.Recorded.{Recorded}
 use Rattle.gl_gov_rules.specs.declared.change.RecordedNode.{RecordedNode}
 use Rattle.gl_gov_rules.specs.declared.change.Change.{Change}
 use Rattle.gl_gov_rules.specs.declared.change.Changed.{Changed}
-use Rattle.gl_gov_rules.specs.History.{History, last_set}
+use Rattle.gl_gov_rules.specs.declared.request_facts.GivenShare.{GivenShare}
+use Rattle.gl_gov_rules.specs.History.{Answered, History, nothing, last_set}
 use Rattle.gl_gov_rules.specs.Nodes.{nodes_recorded}
-use Rattle.gl_gov_rules.specs.Service.{sets_rules, constitution, sets_dealing, dealing, identity, is_recovered, service_state, last_clearing, share_in, share_after, shares_given}
+use Rattle.gl_gov_rules.specs.Service.{sets_rules, constitution, sets_dealing, dealing, identity, is_recovered, service_state, last_clearing, share_in, given_share, given_in, given_after, given, shares_given}
+use Rattle.gl_gov_rules.specs.Proposals.{answers_with}
 use Rattle.gl_gov_rules.specs.Changes.{request_changes, changes_of, changed_at, with_request, history}
 use Rattle.gl_gov_rules.specs.Rows.{rule_writes_from, rule_writes_of, write_of, dealing_write, member_rows, member_write, node_rows, node_write, proposal_writes, service_row, service_write, share_write, all_rows, rows, effect_writes}
 use Rattle.gl_gov_rules.proofs.Prefixes.{requests_with, changes_with, history-more}
 use Rattle.gl_gov_rules.proofs.HistoryLists.{nodes_after}
+use Rattle.gl_gov_rules.proofs.NothingCarried.{carried_with}
 use Rattle.gl_gov_rules.proofs.RowsSet.{are_rows_rows}
 use Rattle.gl_gov.specs.declared.touched.Touched.{Touched}
 use Rattle.gl_gov.specs.declared.touched.Selection.TheVariants as selections
@@ -106,13 +109,13 @@ no_share h r is = go (share_in r.request) (or_parts (are_any (changes_of h r)) (
     go (Some s) e = absurd (cc)
 
 -- a request that brings nothing about records no node but one that it names
-names_recorded : (h : History) (rs : List Recorded) (seqno : ℕ) (q : GovernanceRequest) → are_any (request_changes h rs seqno q) ≡ false →
+names_recorded : (h : History) (given : List Answered) (seqno : ℕ) (q : GovernanceRequest) → are_any (request_changes h given seqno q) ≡ false →
     list_all (λ (n : RecordedNode). is_id_of (node_named q) n.id) (nodes_recorded seqno q) ≡ true
-names_recorded h rs seqno (requests.Genesis g) quiet = absurd (cc)
-names_recorded h rs seqno (requests.Recover x) quiet = absurd (cc)
-names_recorded h rs seqno (requests.Join n) quiet = and_from (is_id_of (Some (node_id n)) (node_id n)) true ((bytes_decides (node_id n) (node_id n)).1 refl) refl
-names_recorded h rs seqno (requests.Mark id) quiet = refl
-names_recorded h rs seqno (requests.Member m) quiet = refl
+names_recorded h given seqno (requests.Genesis g) quiet = absurd (cc)
+names_recorded h given seqno (requests.Recover x) quiet = absurd (cc)
+names_recorded h given seqno (requests.Join n) quiet = and_from (is_id_of (Some (node_id n)) (node_id n)) true ((bytes_decides (node_id n) (node_id n)).1 refl) refl
+names_recorded h given seqno (requests.Mark id) quiet = refl
+names_recorded h given seqno (requests.Member m) quiet = refl
 
 module _ (h : History) (r : Recorded) where
   abbrev after : History
@@ -122,7 +125,7 @@ module _ (h : History) (r : Recorded) where
   t = touched_by h r
 
   same_proposals : left t (proposal_writes after) ≡ left t (proposal_writes h)
-  same_proposals = proposals_left h after r (requests_with h r) t (changes_more h r) (map (changed_at r.seqno) (changes_of h r)) (changes_with h r) (quiet_changes h r) refl
+  same_proposals = proposals_left h after r (carried_with h r) (requests_with h r) t (changes_more h r) (map (changed_at r.seqno) (changes_of h r)) (changes_with h r) (quiet_changes h r) refl
 
   changes_more_parts : changes_more h r ≡ true → SameParts t h after
   changes_more_parts is_more = record {
@@ -149,31 +152,29 @@ module _ (h : History) (r : Recorded) where
 
     same_service : service_row after ≡ service_row h
     unfolding service_row service_state is_recovered identity
-    same_service = ap (λ (cs : List Changed). service_row (record { requests = []; changes = cs })) quiet
+    same_service = ap (λ (cs : List Changed). service_row (record { carried = nothing; requests = []; changes = cs })) quiet
 
     same_clearing : last_clearing after ≡ last_clearing h
     unfolding last_clearing
-    same_clearing = ap (λ (cs : List Changed). last_clearing (record { requests = []; changes = cs })) quiet
+    same_clearing = ap (λ (cs : List Changed). last_clearing (record { carried = nothing; requests = []; changes = cs })) quiet
+
+    same_given : given after ≡ given h
+    unfolding given with_request
+    same_given =
+        let told : Recorded → Option GivenShare = λ (x : Recorded). given_in x.seqno x.request in
+        ap (λ (gs : List GivenShare). h.carried.shares ++ gs)
+        (filter_map-append told h.requests (r ∷ [])
+        ∙ ap (λ (o : Option Share). filter_map told h.requests ++ cons_option (option_map (given_share r.seqno) o) []) (no_share h r calm)
+        ∙ append-nil (filter_map told h.requests))
 
     same_shares : shares_given after ≡ shares_given h
     unfolding shares_given
-    same_shares =
-        ap₂ (λ (n : ℕ) (rs : List Recorded). filter_map (share_after n) rs) same_clearing (requests_with h r)
-        ∙ filter_map-append (share_after (last_clearing h)) h.requests (r ∷ [])
-        ∙ ap (λ (o : Option Share). filter_map (share_after (last_clearing h)) h.requests ++ cons_option o []) none
-        ∙ append-nil (filter_map (share_after (last_clearing h)) h.requests)
-      where
-        none : share_after (last_clearing h) r ≡ None
-        none = ap (λ (o : Option Share). if nat_lt (last_clearing h) r.seqno then o else None) (no_share h r calm) ∙ go (nat_lt (last_clearing h) r.seqno)
-          where
-            go : (b : Bool) → NoShare (if b then None else None)
-            go true = refl
-            go false = refl
+    same_shares = ap₂ (λ (n : ℕ) (gs : List GivenShare). filter_map (given_after n) gs) same_clearing same_given
 
     nodes_named : list_all (λ (n : RecordedNode). touches_node t n.id) (nodes_recorded r.seqno r.request) ≡ true
     unfolding changes_more changes_of
     nodes_named =
-        go (nodes_recorded r.seqno r.request) (names_recorded h (h.requests ++ r ∷ []) r.seqno r.request (or_parts (are_any (changes_of h r)) (is_some (share_in r.request)) calm).0)
+        go (nodes_recorded r.seqno r.request) (names_recorded h (answers_with h r.request) r.seqno r.request (or_parts (are_any (changes_of h r)) (is_some (share_in r.request)) calm).0)
       where
         go : (ns : List RecordedNode) → list_all (λ (n : RecordedNode). is_id_of (node_named r.request) n.id) ns ≡ true → list_all (λ (n : RecordedNode). touches_node t n.id) ns ≡ true
         go [] all = refl
@@ -185,8 +186,8 @@ module _ (h : History) (r : Recorded) where
     quiet_parts = record {
       rules = ap (λ (o : Option (List Rule)). left t (rule_writes_of o)) same_constitution;
       dealt = ap (λ o. left t (write_of dealing_write o)) same_dealing;
-      members = members_left h after r (requests_with h r) t quiet refl;
-      nodes = nodes_left h after r (requests_with h r) t quiet refl (nodes_recorded r.seqno r.request) (nodes_after h r) nodes_named;
+      members = members_left h after r (carried_with h r) (requests_with h r) t quiet refl;
+      nodes = nodes_left h after r (carried_with h r) (requests_with h r) t quiet refl (nodes_recorded r.seqno r.request) (nodes_after h r) nodes_named;
       proposed = same_proposals;
       service = ap (λ o. left t (write_of service_write o)) same_service;
       shares = ap (λ (ss : List Share). left t (map share_write ss)) same_shares;

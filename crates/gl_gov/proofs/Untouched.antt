@@ -1,5 +1,5 @@
 -- The rows that a request doesn't touch are the same after it, table by table.
-use Rattle.std.proofs.Common.{◌≡◌, ◌⊎◌, inl, inr, ℕ, suc, List, [], ◌∷◌, ◌++◌, map, filter, filter_map, reverse, find, Option, None, Some, IfSome, is_some, Bool, true, false, not, ◌&&◌, ◌||◌, nat_eq, cond, slice_get, if◌then◌else◌, refl, sym, ◌∙◌, ap, ap₂, append-nil}
+use Rattle.std.proofs.Common.{◌≡◌, ◌⊎◌, inl, inr, ℕ, suc, List, [], ◌∷◌, ◌++◌, map, filter, filter_map, reverse, find, Option, None, Some, IfSome, is_some, Bool, true, false, not, ◌&&◌, ◌||◌, nat_eq, cond, slice_get, if◌then◌else◌, refl, sym, ◌∙◌, ap, ap₂, append-nil, append_assoc}
 use Rattle.std.specs.List.{list_all, list_any, cons_option}
 use Rattle.std.specs.Option.{option_to_list}
 use Rattle.std.specs.Cmp.Lexicographic.{bytes_decides}
@@ -23,6 +23,7 @@ use Rattle.gl_gov_rules.specs.declared.change.RecordedNode.{RecordedNode}
 use Rattle.gl_gov_rules.specs.declared.change.Proposal.{Proposal}
 use Rattle.gl_gov_rules.specs.declared.change.ProposalState.{ProposalState}
 use Rattle.gl_gov_rules.specs.declared.change.Changed.{Changed}
+use Rattle.gl_gov_rules.specs.declared.request_facts.Mark.{Mark}
 use Rattle.gl_gov_rules.specs.declared.refusal.MemberStatus.{MemberStatus}
 use Rattle.gl_gov_rules.specs.declared.refusal.MemberStatus.TheVariants as member_statuses
 use Rattle.gl_gov_rules.specs.declared.refusal.NodeStatus.{NodeStatus}
@@ -31,12 +32,13 @@ use Rattle.gl_gov_rules.specs.declared.row.Vote.{Vote}
 use Rattle.gl_gov_rules.specs.declared.row.MemberRow.{MemberRow}
 use Rattle.gl_gov_rules.specs.declared.row.NodeRow.{NodeRow}
 use Rattle.gl_gov_rules.specs.declared.row.ProposalRow.{ProposalRow}
-use Rattle.gl_gov_rules.specs.History.{History, seqno_of}
-use Rattle.gl_gov_rules.specs.Members.{members, is_removed, is_by, is_ack, is_ack_by, has_acked, member_status, leaf_after_last, next_leaf}
+use Rattle.gl_gov_rules.specs.History.{Answered, Carried, History, seqno_of}
+use Rattle.gl_gov_rules.specs.Members.{members, is_removed, is_by, is_ack, is_ack_by, is_signer, is_acked_by, has_acked, member_status, leaf_after_last, leaf_carried, next_leaf}
 use Rattle.gl_gov_rules.specs.Nodes.{nodes, trusts, marks, retirement, is_marked, is_trust_applied, was_trusted, node_status}
-use Rattle.gl_gov_rules.specs.Proposals.{proposal_in_act, proposal_in, proposals, state_settled, first_or_open, proposal_state, is_open_state, is_answer_on, is_ballot, has_answered}
+use Rattle.gl_gov_rules.specs.Proposals.{proposal_in_act, proposal_in, proposals, state_settled, first_or_open, proposal_state, is_open_state, is_answer_on, is_ballot, answer_in, answers_of, is_answer, has_answered}
 use Rattle.gl_gov_rules.specs.ProposalStatus.{named_in_act, proposal_named}
 use Rattle.gl_gov_rules.specs.Rows.{member_row, member_rows, member_write, node_row, node_rows_from, node_rows, node_write, vote_of, member_numbers, votes, proposal_row, proposal_write, proposal_writes}
+use Rattle.gl_gov_rules.proofs.HistoryIndex.{answers_any}
 use Rattle.gl_gov_rules.proofs.Finding.{any_from, filter_has, map_place}
 use Rattle.gl_gov.specs.declared.touched.Touched.{Touched}
 use Rattle.gl_gov.specs.Touched.{signer, node_named, is_open, open_ids, ids_touched, is_key_of, is_id_of, touches_node, touches_proposal, is_touched}
@@ -96,7 +98,7 @@ left_none t (w ∷ ws) all =
 -- ---- a request after a history
 
 -- the history `k` is `h` with one more request, and more changes
-module _ (h k : History) (r : Recorded) (asked : k.requests ≡ h.requests ++ r ∷ []) where
+module _ (h k : History) (r : Recorded) (same : k.carried ≡ h.carried) (asked : k.requests ≡ h.requests ++ r ∷ []) where
   -- ---- members
 
   signed_key : (number : ℕ) (q : GovernanceRequest) → is_key_of (signer q) (number ∷ []) ≡ is_by number q
@@ -122,13 +124,13 @@ module _ (h k : History) (r : Recorded) (asked : k.requests ≡ h.requests ++ r 
     unfolding has_acked
     same_acked number is =
         let p : Recorded → Bool = λ (x : Recorded). is_ack_by number x.request in
-        ap (list_any p) asked ∙ any_push p h.requests r (no_ack number r.request is)
+        ap₂ (λ (c : Carried) (b : Bool). list_any (is_acked_by number) c.signed || b) same (ap (list_any p) asked ∙ any_push p h.requests r (no_ack number r.request is))
 
     same_leaf : (number : ℕ) → is_by number r.request ≡ false → next_leaf k number ≡ next_leaf h number
     unfolding next_leaf
     same_leaf number is =
         let p : Recorded → Bool = λ (x : Recorded). is_by number x.request in
-        ap leaf_after_last (ap (last_such p) asked ∙ last_such_push p h.requests r is)
+        ap₂ (λ (c : Carried) (o : Option Recorded). leaf_after_last (leaf_carried (find (is_signer number) c.signed)) o) same (ap (last_such p) asked ∙ last_such_push p h.requests r is)
 
     same_status : (number : ℕ) → is_by number r.request ≡ false → member_status k number ≡ member_status h number
     unfolding member_status
@@ -187,7 +189,7 @@ module _ (h k : History) (r : Recorded) (asked : k.requests ≡ h.requests ++ r 
     unfolding is_marked
     same_marked id is =
         let p : Recorded → Bool = λ (x : Recorded). marks id x.request in
-        ap (list_any p) asked ∙ any_push p h.requests r (unmarked id r.request is)
+        ap₂ (λ (c : Carried) (b : Bool). list_any (λ (m : Mark). same_bytes id m.id) c.marks || b) same (ap (list_any p) asked ∙ any_push p h.requests r (unmarked id r.request is))
 
     same_retirement : (n : RecordedNode) → retirement k n ≡ retirement h n
     unfolding retirement
@@ -264,22 +266,28 @@ module _ (h k : History) (r : Recorded) (asked : k.requests ≡ h.requests ++ r 
   no_ballot id number agrees (requests.Join n) is = refl
   no_ballot id number agrees (requests.Mark other) is = refl
 
-  same_answered : (id : List ℕ) (agrees : Bool) (number : ℕ) → IsUnnamed id → has_answered k.requests id agrees number ≡ has_answered h.requests id agrees number
-  unfolding has_answered
+  same_answered : (id : List ℕ) (agrees : Bool) (number : ℕ) → IsUnnamed id → has_answered (answers_of k) id agrees number ≡ has_answered (answers_of h) id agrees number
+  unfolding has_answered answers_of
   same_answered id agrees number is =
       let p : Recorded → Bool = λ (x : Recorded). is_ballot id number agrees x.request in
-      ap (list_any p) asked ∙ any_push p h.requests r (no_ballot id number agrees r.request is)
+      let is_its = is_answer id agrees number in
+      let told : List Recorded → List Answered = λ (rs : List Recorded). filter_map (λ (x : Recorded). answer_in x.request) rs in
+      ap₂ (λ (c : Carried) (rs : List Recorded). list_any is_its (c.ballots ++ told rs)) same asked
+      ∙ list_any-append is_its h.carried.ballots (told (h.requests ++ r ∷ []))
+      ∙ ap (λ (b : Bool). list_any is_its h.carried.ballots || b)
+      (sym (answers_any (h.requests ++ r ∷ []) id agrees number) ∙ any_push p h.requests r (no_ballot id number agrees r.request is) ∙ answers_any h.requests id agrees number)
+      ∙ sym (list_any-append is_its h.carried.ballots (told h.requests))
 
-  same_vote : (id : List ℕ) → IsUnnamed id → (number : ℕ) → vote_of k.requests id number ≡ vote_of h.requests id number
+  same_vote : (id : List ℕ) → IsUnnamed id → (number : ℕ) → vote_of (answers_of k) id number ≡ vote_of (answers_of h) id number
   same_vote id is number =
       ap₂ (λ (a b : Bool). if a then Some (the_vote true) else (if b then Some (the_vote false) else None)) (same_answered id true number is) (same_answered id false number is)
     where
       the_vote : Bool → Vote
       the_vote agrees = record { member = number; agrees = agrees }
 
-  same_votes : (id : List ℕ) → IsUnnamed id → votes k.requests id ≡ votes h.requests id
+  same_votes : (id : List ℕ) → IsUnnamed id → votes (answers_of k) id ≡ votes (answers_of h) id
   unfolding votes
-  same_votes id is = same_found (vote_of k.requests id) (vote_of h.requests id) (same_vote id is) member_numbers
+  same_votes id is = same_found (vote_of (answers_of k) id) (vote_of (answers_of h) id) (same_vote id is) member_numbers
 
   same_proposal_row : (p : Proposal) → proposal_state k p ≡ proposal_state h p → IsUnnamed p.id → proposal_row k p ≡ proposal_row h p
   unfolding proposal_row
@@ -369,7 +377,9 @@ module _ (h k : History) (r : Recorded) (asked : k.requests ≡ h.requests ++ r 
     unfolding proposals
     more_proposals =
         let f : Recorded → Option Proposal = λ (x : Recorded). proposal_in x.seqno x.request in
-        ap (filter_map f) asked ∙ filter_map-append f h.requests (r ∷ [])
+        ap₂ (λ (c : Carried) (rs : List Recorded). c.proposals ++ filter_map f rs) same asked
+        ∙ ap (λ (ps : List Proposal). h.carried.proposals ++ ps) (filter_map-append f h.requests (r ∷ []))
+        ∙ sym (append_assoc h.carried.proposals (filter_map f h.requests) (filter_map f (r ∷ [])))
 
     -- the rows of proposals that the request neither names nor finds open where it changes more
     pub proposals_left : left t (proposal_writes k) ≡ left t (proposal_writes h)

@@ -9,10 +9,9 @@ ghost use Rattle.gl_requests.specs.Encoding.{rule_bytes, action_bytes};
 ghost use Rattle.gl_requests.specs.Ranges.{is_dealing, is_action};
 ghost use Rattle.gl_gov_rules.specs.Service.{dealing};
 ghost use Rattle.gl_gov_rules.specs.Rows.{constitution_map, service_row, service_write, member_row, member_rows, member_write, node_row, node_rows, node_write, vote_of, votes, proposal_row, vote_bytes, proposal_write, dealing_write, share_write};
-ghost use Rattle.gl_gov_rules.specs.History.{seqno_of};
+ghost use Rattle.gl_gov_rules.specs.History.{History, seqno_of};
 ghost use Rattle.gl_gov_rules.specs.Nodes.{nodes, retirement};
-ghost use Rattle.gl_gov_rules.specs.Proposals.{proposal_state, ballots_on};
-ghost use Rattle.gl_gov_rules.specs.declared.change.Recorded.{Recorded};
+ghost use Rattle.gl_gov_rules.specs.Proposals.{proposal_state, ballots_on, answers_of};
 
 use gl_base::{Bytes, Sequence, put_bytes, put_flag, put_u8, put_u16, put_u32, put_u64};
 use gl_gov_rules::{
@@ -213,8 +212,8 @@ pub fn node_write(alloc: Global, node: &NodeRow) -> Result<Write, AllocError>
 /// A member's ballot on the proposal of which these are the ballots, if it has answered.
 #[tactic(auto, using(gl_gov_rules::proofs::HistoryIndex::answered_any))]
 fn vote_of(ballots: &[Ballot], member: u8) -> Option<Vote>
-    ensures { (rs : List Recorded) (id : List ℕ) →
-        ballots.now ≡ ballots_on id rs → result ≡ vote_of rs id member }
+    ensures { (h : History) (id : List ℕ) →
+        ballots.now ≡ ballots_on id h → result ≡ vote_of (answers_of h) id member }
 {
     if has_vote(ballots, true, member) {
         Some(Vote {
@@ -245,7 +244,7 @@ fn push_vote(ballots: &mut Vec<Vote>, vote: Option<Vote>) -> Result<(), AllocErr
 /// The ballots on a proposal, ascending by member.
 #[tactic(auto, unfolding(gl_gov_rules::specs::Rows::votes))]
 fn votes(alloc: Global, past: &History, id: &[u8; 32]) -> Result<Vec<Vote>, AllocError>
-    ensures votes { IfOk result (λ ballots. ballots.items ≡ votes past.now.requests id.now) }
+    ensures votes { IfOk result (λ ballots. ballots.items ≡ votes (answers_of past.now) id.now) }
     ensures few { IfOk result (λ ballots. length ballots.items ≤ 255) }
 {
     let ballots = past.ballots(id);

@@ -3,6 +3,7 @@
 
 ghost use Rattle.std.specs.Prelude.{◌≡◌, ◌++◌, ◌∷◌, [], if◌then◌else◌, IfOk, OnOk, map};
 ghost use Rattle.gl_gov_rules.specs.Service.{shares_given};
+ghost use Rattle.gl_gov_rules.specs.Proposals.{answers_with};
 ghost use Rattle.gl_gov_rules.specs.Tally.{tally};
 ghost use Rattle.gl_gov_rules.specs.Changes.{first_rules, set_member, founding_changes, acceptance_changes, ballot_changes, is_complete, act_changes, changes_of, changed_at};
 
@@ -121,7 +122,7 @@ fn ballot_changes(
 ) -> Result<Vec<Changed>, AllocError>
     ensures { IfOk result (λ out. out.items
         ≡ map (changed_at last.now.seqno) (ballot_changes past.now last.now.seqno id
-        (tally past.now (past.now.requests ++ last.now ∷ []) id) actions.now)) }
+        (tally past.now (answers_with past.now last.now.request) id) actions.now)) }
 {
     let seqno = last.seqno;
     let tally = tally(past, last, &id);
@@ -168,7 +169,7 @@ fn act_changes(
     act: &MemberAct,
 ) -> Result<Vec<Changed>, AllocError>
     ensures { IfOk result (λ out. out.items ≡ map (changed_at last.now.seqno)
-        (act_changes past.now (past.now.requests ++ last.now ∷ []) last.now.seqno act.now)) }
+        (act_changes past.now (answers_with past.now last.now.request) last.now.seqno act.now)) }
 {
     match act {
         MemberAct::Ballot {

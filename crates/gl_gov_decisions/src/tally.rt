@@ -1,11 +1,11 @@
 //! Counting the ballots on a proposal, and whether they settle it.
 
-ghost use Rattle.std.specs.Prelude.{◌≡◌, ◌++◌, ◌∷◌, [], ◌&&◌, ◌||◌, count_by};
+ghost use Rattle.std.specs.Prelude.{◌≡◌, ◌&&◌, ◌||◌, count_by};
 ghost use Rattle.std.specs.List.{list_any};
 ghost use Rattle.gl_requests.specs.declared.genesis.NewMember as a_member;
 ghost use Rattle.gl_requests.specs.Encoding.{action_number};
 ghost use Rattle.gl_gov_rules.specs.Members.{members, is_active};
-ghost use Rattle.gl_gov_rules.specs.Proposals.{ballots_on, is_ballot, is_vote};
+ghost use Rattle.gl_gov_rules.specs.Proposals.{answers_with, ballots_on, is_ballot, is_vote};
 ghost use Rattle.gl_gov_rules.specs.Service.{constitution};
 ghost use Rattle.gl_gov_rules.specs.Tally.{answer_count, tally, rule_of, is_met, is_out_of_reach, is_accepted, is_rejected};
 
@@ -51,9 +51,9 @@ fn answer_count(
     id: &Digest,
     agrees: bool,
 ) -> usize
-    requires { ballots.now ≡ ballots_on id.now past.now.requests }
+    requires { ballots.now ≡ ballots_on id.now past.now }
     ensures { result
-        ≡ answer_count past.now (past.now.requests ++ last.now ∷ []) id.now agrees }
+        ≡ answer_count past.now (answers_with past.now last.now.request) id.now agrees }
 {
     vote_count(past, ballots, last, id, agrees)
 }
@@ -61,7 +61,7 @@ fn answer_count(
 /// The ballots on a proposal in the requests of the past and in this one after them, counted again
 /// over the members who are active in the past.
 pub(crate) fn tally(past: &History, last: &Recorded, id: &Digest) -> Tally
-    ensures { result ≡ tally past.now (past.now.requests ++ last.now ∷ []) id.now }
+    ensures { result ≡ tally past.now (answers_with past.now last.now.request) id.now }
 {
     let ballots = past.ballots(id);
     Tally {

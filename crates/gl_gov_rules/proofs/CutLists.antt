@@ -7,7 +7,7 @@ use Rattle.std.proofs.lemmas.List.Sums.{length-filter}
 use Rattle.std.proofs.lemmas.Grind.{fold-append}
 use Rattle.gl_gov_rules.specs.declared.change.Recorded.{Recorded}
 use Rattle.gl_gov_rules.specs.declared.change.Changed.{Changed}
-use Rattle.gl_gov_rules.specs.History.{History, no_history}
+use Rattle.gl_gov_rules.specs.History.{History, no_history, nothing}
 use Rattle.gl_gov_rules.specs.Changes.{history, with_request, changed_at, changes_of}
 use Rattle.gl_gov_rules.specs.Governed.{up_to}
 use Rattle.gl_gov_rules.specs.Rising.{IsRising}
@@ -89,19 +89,19 @@ changes_left p h rising whole =
 -- ---- the history that is left
 
 record_left : (p : ℕ) (h : History) → IsRising h.requests → h ≡ history h.requests →
-    record { requests = take (count_by (λ (r : Recorded). nat_le r.seqno p) h.requests) h.requests; changes = take (count_by (λ (c : Changed). nat_le c.seqno p) h.changes) h.changes }
+    record { carried = h.carried; requests = take (count_by (λ (r : Recorded). nat_le r.seqno p) h.requests) h.requests; changes = take (count_by (λ (c : Changed). nat_le c.seqno p) h.changes) h.changes }
     ≡ history (up_to p h.requests)
 record_left p h rising whole =
     rw (requests_left p h.requests rising, changes_left p h rising whole) (ap (cut_to p) whole ∙ sym (history-up_to p h.requests rising))
 
-pub rising_in : (h : History) (rs : List Recorded) (cs : List Changed) → record { requests = rs; changes = cs } ≡ h → IsRising h.requests → IsRising rs
+pub rising_in : (h : History) (rs : List Recorded) (cs : List Changed) → record { carried = nothing; requests = rs; changes = cs } ≡ h → IsRising h.requests → IsRising rs
 rising_in h rs cs view rising = subst (λ (x : History). IsRising x.requests) (sym view) rising
 
-pub history_left : (p : ℕ) (h : History) (rs after : List Recorded) (cs left : List Changed) → record { requests = rs; changes = cs } ≡ h →
+pub history_left : (p : ℕ) (h : History) (rs after : List Recorded) (cs left : List Changed) → record { carried = nothing; requests = rs; changes = cs } ≡ h →
     IsRising h.requests → h ≡ history h.requests →
     after ≡ take (count_by (λ (r : Recorded). nat_le r.seqno p) rs) rs → left ≡ take (count_by (λ (c : Changed). nat_le c.seqno p) cs) cs →
-    record { requests = after; changes = left } ≡ history (up_to p h.requests)
+    record { carried = nothing; requests = after; changes = left } ≡ history (up_to p h.requests)
 history_left p h rs after cs left view rising whole r c =
     rw (r, c) (subst (λ (x : History). IsRising x.requests → x ≡ history x.requests →
-    record { requests = take (count_by (λ (r : Recorded). nat_le r.seqno p) rs) rs; changes = take (count_by (λ (c : Changed). nat_le c.seqno p) cs) cs } ≡ history (up_to p x.requests))
-    view (record_left p (record { requests = rs; changes = cs })) rising whole)
+    record { carried = nothing; requests = take (count_by (λ (r : Recorded). nat_le r.seqno p) rs) rs; changes = take (count_by (λ (c : Changed). nat_le c.seqno p) cs) cs } ≡ history (up_to p x.requests))
+    view (record_left p (record { carried = nothing; requests = rs; changes = cs })) rising whole)

@@ -16,7 +16,7 @@ abbrev pub changes_up_to : ℕ → List Changed → List Changed
 changes_up_to seqno cs = filter (λ (c : Changed). nat_le c.seqno seqno) cs
 
 abbrev pub cut_to : ℕ → History → History
-cut_to seqno h = record { requests = up_to seqno h.requests; changes = changes_up_to seqno h.changes }
+cut_to seqno h = record { carried = h.carried; requests = up_to seqno h.requests; changes = changes_up_to seqno h.changes }
 
 kept_changes : (p q : ℕ) (cs : List Change) → nat_le q p ≡ true → changes_up_to p (map (changed_at q) cs) ≡ map (changed_at q) cs
 kept_changes p q [] e = refl

@@ -9,7 +9,7 @@ use Rattle.gl_vmaps.proofs.Changes.{changes_turn, changes_from_none}
 use Rattle.gl_gov_rules.specs.declared.change.Recorded.{Recorded}
 use Rattle.gl_gov_rules.specs.Members.{members}
 use Rattle.gl_gov_rules.specs.Nodes.{nodes}
-use Rattle.gl_gov_rules.specs.Service.{constitution, dealing, identity, service_state, shares_given}
+use Rattle.gl_gov_rules.specs.Service.{constitution, dealing, identity, service_state, given, shares_given}
 use Rattle.gl_gov_rules.specs.Proposals.{proposals}
 use Rattle.gl_gov_rules.specs.Changes.{history}
 use Rattle.gl_gov_rules.specs.Rows.{all_rows, rows, effect, effect_writes, member_rows, node_rows, proposal_writes, service_row}
@@ -29,7 +29,7 @@ effect_ordered rs r = is_ordered-set_from [] (changes_listed (rows (history rs))
 
 -- no requests have no rows
 pub no_rows : rows (history []) ≡ []
-unfolding history rows all_rows constitution dealing member_rows members node_rows nodes proposal_writes proposals service_row service_state identity shares_given
+unfolding history rows all_rows constitution dealing member_rows members node_rows nodes proposal_writes proposals service_row service_state identity shares_given given
 no_rows = refl
 
 -- the write set of the first request is its rows

@@ -29,6 +29,7 @@ use Rattle.gl_gov_rules.proofs.Removals.{node_is}
 use Rattle.gl_gov_rules.proofs.FewNodes.{genesis_passes, join_passes}
 use Rattle.gl_gov_rules.proofs.FoundingReadings.{founding_recorded}
 use Rattle.gl_gov_rules.proofs.KeptIdentity.{has_recovery, identity_kept, founding_named}
+use Rattle.gl_gov_rules.proofs.NothingCarried.{nothing_carried, nodes_asked}
 
 -- ---- a founding
 
@@ -53,10 +54,12 @@ first_with s (m ∷ ms) (suc i) n apart at =
 -- whatever requests follow a founding, its nodes are recorded as it names them
 pub founding_node : (g : Genesis) (rs : List Recorded) (i : ℕ) (n : NewNode) → are_ids_distinct g.nodes ≡ true → slice_get g.nodes i ≡ Some n →
     node (history (founding_recorded g ∷ rs)) (node_id n) ≡ Some (recorded_node 1 true n)
-unfolding node nodes
+unfolding node
 founding_node g rs i n apart at =
     let recorded : Recorded → List RecordedNode = λ (r : Recorded). nodes_recorded r.seqno r.request in
-    ap (λ (xs : List Recorded). find (has_id (node_id n)) (flat_map recorded xs)) (requests_of (founding_recorded g ∷ rs))
+    let h : History = history (founding_recorded g ∷ rs) in
+    ap (find (has_id (node_id n))) (nodes_asked h (nothing_carried (founding_recorded g ∷ rs)))
+    ∙ ap (λ (xs : List Recorded). find (has_id (node_id n)) (flat_map recorded xs)) (requests_of (founding_recorded g ∷ rs))
     ∙ find_kept (has_id (node_id n)) (map (recorded_node 1 true) g.nodes) (flat_map recorded rs) (recorded_node 1 true n) (first_with 1 g.nodes i n apart at)
 
 -- ---- endorsements

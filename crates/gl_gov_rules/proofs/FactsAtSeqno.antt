@@ -18,7 +18,8 @@ use Rattle.gl_gov_rules.specs.declared.request_facts.Signed.{Signed}
 use Rattle.gl_gov_rules.specs.Nodes.{recorded_node, nodes_recorded}
 use Rattle.gl_gov_rules.specs.Service.{share_in}
 use Rattle.gl_gov_rules.specs.Proposals.{proposal_in, proposal_in_act, ballot_in, ballot_in_act}
-use Rattle.gl_gov_rules.specs.RequestFacts.{mark_in, given_in, given_share, signed_by, signed_in}
+use Rattle.gl_gov_rules.specs.RequestFacts.{mark_in, signed_by, signed_in}
+use Rattle.gl_gov_rules.specs.Service.{given_in, given_share}
 use Rattle.gl_gov_rules.proofs.ByRequests.{StandAt}
 
 named_at : (q : ℕ) (b : Bool) (ns : List NewNode) → StandAt (λ (n : RecordedNode). n.seqno) q (map (recorded_node q b) ns)

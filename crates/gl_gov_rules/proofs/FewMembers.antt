@@ -16,8 +16,8 @@ use Rattle.gl_gov_rules.specs.declared.change.Tally.{Tally}
 use Rattle.gl_gov_rules.specs.declared.refusal.Cause.{Cause}
 use Rattle.gl_gov_rules.specs.declared.refusal.Cause.TheVariants as causes
 use Rattle.gl_gov_rules.specs.declared.refusal.GovernanceRefusal.TheVariants as refusals
-use Rattle.gl_gov_rules.specs.History.{History}
-use Rattle.gl_gov_rules.specs.Proposals.{proposal}
+use Rattle.gl_gov_rules.specs.History.{History, Answered}
+use Rattle.gl_gov_rules.specs.Proposals.{proposal, answers_with}
 use Rattle.gl_gov_rules.specs.Actions.{◌orelse◌, where_is, first_bad_action}
 use Rattle.gl_gov_rules.specs.Tally.{tally, is_accepted, is_rejected}
 use Rattle.gl_gov_rules.specs.Changes.{founding_changes, acceptance_changes, ballot_changes, ballot_changes_on, act_changes, request_changes, is_complete, changes_of, changed_at, history}
@@ -72,28 +72,28 @@ left_counted h seqno id t list few = by_count (is_accepted h t list) (is_rejecte
     by_count false true = none_new h.changes (changed_at seqno (changes.Settled id states.Rejected) ∷ []) refl few
     by_count false false = none_new h.changes [] refl few
 
-left_balloted : (h : History) (rs : List Recorded) (seqno : ℕ) (id : List ℕ) (o : Option Proposal) → left_in h.changes ≤ 64 → left_in (h.changes ++ map (changed_at seqno) (ballot_changes_on h rs seqno id o)) ≤ 64
-left_balloted h rs seqno id None few = none_new h.changes [] refl few
-left_balloted h rs seqno id (Some p) few = left_counted h seqno id (tally h rs id) p.actions few
+left_balloted : (h : History) (given : List Answered) (seqno : ℕ) (id : List ℕ) (o : Option Proposal) → left_in h.changes ≤ 64 → left_in (h.changes ++ map (changed_at seqno) (ballot_changes_on h given seqno id o)) ≤ 64
+left_balloted h given seqno id None few = none_new h.changes [] refl few
+left_balloted h given seqno id (Some p) few = left_counted h seqno id (tally h given id) p.actions few
 
 -- ---- any request
 
-left_acted : (h : History) (rs : List Recorded) (seqno : ℕ) (act : MemberAct) → left_in h.changes ≤ 64 → left_in (h.changes ++ map (changed_at seqno) (act_changes h rs seqno act)) ≤ 64
-left_acted h rs seqno (acts.Ballot id agrees) few = left_balloted h rs seqno id (proposal h id) few
-left_acted h rs seqno (acts.Withdraw id) few = none_new h.changes (changed_at seqno (changes.Settled id states.Withdrawn) ∷ []) refl few
-left_acted h rs seqno (acts.Share share) few = complete (is_complete h)
+left_acted : (h : History) (given : List Answered) (seqno : ℕ) (act : MemberAct) → left_in h.changes ≤ 64 → left_in (h.changes ++ map (changed_at seqno) (act_changes h given seqno act)) ≤ 64
+left_acted h given seqno (acts.Ballot id agrees) few = left_balloted h given seqno id (proposal h id) few
+left_acted h given seqno (acts.Withdraw id) few = none_new h.changes (changed_at seqno (changes.Settled id states.Withdrawn) ∷ []) refl few
+left_acted h given seqno (acts.Share share) few = complete (is_complete h)
   where
     complete : (b : Bool) → left_in (h.changes ++ map (changed_at seqno) (if b then changes.Completed ∷ [] else [])) ≤ 64
     complete true = none_new h.changes (changed_at seqno changes.Completed ∷ []) refl few
     complete false = none_new h.changes [] refl few
-left_acted h rs seqno other few = none_new h.changes [] refl few
+left_acted h given seqno other few = none_new h.changes [] refl few
 
-left_brought : (h : History) (rs : List Recorded) (seqno : ℕ) (q : GovernanceRequest) → refusal h seqno q ≡ None → (is_founding q ≡ true → left_in h.changes ≡ 0) → left_in h.changes ≤ 64 →
-    left_in (h.changes ++ map (changed_at seqno) (request_changes h rs seqno q)) ≤ 64
-left_brought h rs seqno (requests.Genesis g) accepted first few = left_founded h.changes seqno g (founding_passes h seqno g accepted) (first refl)
-left_brought h rs seqno (requests.Recover r) accepted first few = none_new h.changes (changed_at seqno (changes.Recovered r.identity) ∷ []) refl few
-left_brought h rs seqno (requests.Member m) accepted first few = left_acted h rs seqno m.act few
-left_brought h rs seqno other accepted first few = none_new h.changes [] refl few
+left_brought : (h : History) (given : List Answered) (seqno : ℕ) (q : GovernanceRequest) → refusal h seqno q ≡ None → (is_founding q ≡ true → left_in h.changes ≡ 0) → left_in h.changes ≤ 64 →
+    left_in (h.changes ++ map (changed_at seqno) (request_changes h given seqno q)) ≤ 64
+left_brought h given seqno (requests.Genesis g) accepted first few = left_founded h.changes seqno g (founding_passes h seqno g accepted) (first refl)
+left_brought h given seqno (requests.Recover r) accepted first few = none_new h.changes (changed_at seqno (changes.Recovered r.identity) ∷ []) refl few
+left_brought h given seqno (requests.Member m) accepted first few = left_acted h given seqno m.act few
+left_brought h given seqno other accepted first few = none_new h.changes [] refl few
 
 -- ---- the whole
 
@@ -112,7 +112,7 @@ unfolding changes_of
 few_more rs r all follows few =
     let h = history rs in
     rw (changes_more rs r)
-    (left_brought h (h.requests ++ r ∷ []) r.seqno r.request follows.accepted (λ founds. first_left rs (sym follows.founding ∙ founds)) few)
+    (left_brought h (answers_with h r.request) r.seqno r.request follows.accepted (λ founds. first_left rs (sym follows.founding ∙ founds)) few)
 
 -- after requests that follow one another at most 64 members are left
 pub few_left : (rs : List Recorded) → IsGoverned rs → AreFew rs

@@ -1,9 +1,8 @@
 -- At most 65,535 nodes are recorded by requests that follow one another, with short endorsements.
-use Rattle.std.proofs.Common.{◌≡◌, ℕ, ◌+◌, ◌≤◌, List, [], ◌∷◌, ◌++◌, length, map, flat_map, None, true, not, ◌||◌, ◌==◌, nat_lt, nat_le, ◌∙◌, ap, append-nil, length-append, arith}
+use Rattle.std.proofs.Common.{◌≡◌, ℕ, ◌+◌, ◌≤◌, List, [], ◌∷◌, ◌++◌, length, map, None, true, not, ◌||◌, ◌==◌, nat_lt, nat_le, length-append, arith}
 use Rattle.std.specs.List.{list_all, AllByRecursion}
 use Rattle.std.proofs.lemmas.Bool.{and_parts}
 use Rattle.std.proofs.lemmas.Bool.Decides.{nat_tests}
-use Rattle.std.proofs.lemmas.Grind.{flat_map-append}
 use Rattle.std.proofs.lemmas.List.{length-map}
 use Rattle.gl_requests.specs.Encoding.{node_id}
 use Rattle.gl_requests.specs.declared.genesis.NewNode.{NewNode}
@@ -26,7 +25,8 @@ use Rattle.gl_gov_rules.specs.Governed.{Follows, IsGoverned}
 use Rattle.gl_gov_rules.proofs.Endorsements.{endorsed-length}
 use Rattle.gl_gov_rules.proofs.Counting.{each_append}
 use Rattle.gl_gov_rules.proofs.NoneStands.{none_of, not_bad, not_denied, neither}
-use Rattle.gl_gov_rules.proofs.Prefixes.{requests_more, history_of_none, governed_induction}
+use Rattle.gl_gov_rules.proofs.Prefixes.{history_of_none, governed_induction}
+use Rattle.gl_gov_rules.proofs.HistoryLists.{nodes_more}
 
 abbrev pub IsShort : RecordedNode → Type 0
 IsShort n = length n.node.endorsement ≤ 2508
@@ -99,12 +99,6 @@ fit_recorded h seqno (requests.Join n) none few =
 fit_recorded h seqno other none few = (omega (arith, few), tt)
 
 -- ---- the whole
-
-pub nodes_more : (rs : List Recorded) (r : Recorded) → nodes (history (rs ++ r ∷ [])) ≡ nodes (history rs) ++ nodes_recorded r.seqno r.request
-unfolding nodes
-nodes_more rs r =
-    let recorded : Recorded → List RecordedNode = λ (q : Recorded). nodes_recorded q.seqno q.request in
-    ap (flat_map recorded) (requests_more rs r) ∙ flat_map-append recorded (history rs).requests (r ∷ []) ∙ ap (λ ns. nodes (history rs) ++ ns) (append-nil (recorded r))
 
 abbrev pub AreFewNodes : List Recorded → Type 0
 AreFewNodes rs = (length (nodes (history rs)) ≤ 65535) × AllByRecursion IsShort (nodes (history rs))

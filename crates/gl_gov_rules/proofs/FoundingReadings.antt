@@ -25,6 +25,7 @@ use Rattle.gl_gov_rules.specs.Nodes.{recorded_node, nodes, retires, retirement, 
 use Rattle.gl_gov_rules.specs.Service.{sets_rules, constitution, sets_dealing, dealing, sets_identity, identity, is_recovery, is_recovered, sets_state, service_state, last_clearing, share_after, shares_given}
 use Rattle.gl_gov_rules.specs.Proposals.{proposals}
 use Rattle.gl_gov_rules.specs.Changes.{first_rules, set_member, founding_changes, changes_of, changed_at, with_request, history}
+use Rattle.gl_gov_rules.proofs.NothingCarried.{nothing_carried, nodes_asked, proposals_asked, marked_asked, acked_asked, leaf_asked, shares_asked}
 
 -- ---- the history of a founding
 
@@ -109,16 +110,15 @@ unfolding is_recovered
 founding_unrecovered g = rw (founded_changes g) (no_member_such (λ (c : Changed). is_recovery c.change) (λ m. refl) g.members)
 
 pub founding_shares : (g : founding.Genesis) → shares_given (founded g) ≡ []
-unfolding shares_given
-founding_shares g = ap (filter_map (share_after (last_clearing (founded g)))) (founded_requests g) ∙ by (nat_lt (last_clearing (founded g)) 1)
+founding_shares g =
+    shares_asked (founded g) (nothing_carried (founding_recorded g ∷ [])) ∙ ap (filter_map (share_after (last_clearing (founded g)))) (founded_requests g) ∙ by (nat_lt (last_clearing (founded g)) 1)
   where
     by : (b : Bool) → cons_option {X = Share} (if b then None else None) [] ≡ []
     by true = refl
     by false = refl
 
 pub founding_proposals : (g : founding.Genesis) → proposals (founded g) ≡ []
-unfolding proposals
-founding_proposals g = rw (founded_requests g) refl
+founding_proposals g = rw (proposals_asked (founded g) (nothing_carried (founding_recorded g ∷ [])), founded_requests g) refl
 
 -- ---- members
 
@@ -135,8 +135,7 @@ unfolding is_removed
 unremoved g number = rw (founded_changes g) (no_member_such (λ (c : Changed). removes_member number c.change) (λ m. refl) g.members)
 
 unacked : (g : founding.Genesis) (number : ℕ) → has_acked (founded g) number ≡ false
-unfolding has_acked
-unacked g number = rw (founded_requests g) refl
+unacked g number = rw (acked_asked (founded g) number (nothing_carried (founding_recorded g ∷ [])), founded_requests g) refl
 
 -- no member has acknowledged the service or signed anything
 pub founding_member_status : (g : founding.Genesis) (number : ℕ) → member_status (founded g) number ≡ member_statuses.Accepted
@@ -144,14 +143,12 @@ unfolding member_status
 founding_member_status g number = rw (unremoved g number, unacked g number) refl
 
 pub founding_next_leaf : (g : founding.Genesis) (number : ℕ) → next_leaf (founded g) number ≡ 0
-unfolding next_leaf
-founding_next_leaf g number = rw (founded_requests g) refl
+founding_next_leaf g number = rw (leaf_asked (founded g) number (nothing_carried (founding_recorded g ∷ [])), founded_requests g) refl
 
 -- ---- nodes
 
 pub founding_nodes : (g : founding.Genesis) → nodes (founded g) ≡ map (recorded_node 1 true) g.nodes
-unfolding nodes
-founding_nodes g = rw (founded_requests g) (append-nil (map (recorded_node 1 true) g.nodes))
+founding_nodes g = rw (nodes_asked (founded g) (nothing_carried (founding_recorded g ∷ [])), founded_requests g) (append-nil (map (recorded_node 1 true) g.nodes))
 
 ids_recorded : (ns : List NewNode) → map (λ (n : RecordedNode). n.id) (map (recorded_node 1 true) ns) ≡ map node_id ns
 ids_recorded [] = refl
@@ -177,8 +174,7 @@ founding_unretired g n =
     rw (founded_changes g, and_no (nat_lt n.seqno 1)) (find_no_member out (λ m. and_no (nat_lt n.seqno 1)) g.members)
 
 pub founding_unmarked : (g : founding.Genesis) (id : List ℕ) → is_marked (founded g) id ≡ false
-unfolding is_marked
-founding_unmarked g id = rw (founded_requests g) refl
+founding_unmarked g id = rw (marked_asked (founded g) id (nothing_carried (founding_recorded g ∷ [])), founded_requests g) refl
 
 pub founding_node_status : (g : founding.Genesis) (n : NewNode) → node_status (founded g) (recorded_node 1 true n) ≡ node_statuses.Trusted
 unfolding node_status was_trusted

@@ -1,8 +1,9 @@
 -- What is kept beside a history answers as the requests and the changes do.
-use Rattle.std.proofs.Common.{◌≡◌, ℕ, suc, ◌-◌, ◌≤◌, List, [], ◌∷◌, Option, None, Some, Bool, true, false, ◌&&◌, ◌||◌, nat_eq, nat_lt, cond, find, length, slice_get, option_map, map, filter, is_some, refl, sym, ◌∙◌, ap, arith}
+use Rattle.std.proofs.Common.{◌≡◌, ℕ, suc, ◌-◌, ◌≤◌, List, [], ◌∷◌, ◌++◌, Option, None, Some, Bool, true, false, ◌&&◌, ◌||◌, nat_eq, nat_lt, cond, find, length, slice_get, option_map, map, filter, is_some, refl, sym, ◌∙◌, ap, arith}
 use Rattle.std.specs.List.{list_any, filter_map, cons_option, count_by}
 use Rattle.std.specs.Option.{option_or}
 use Rattle.std.proofs.lemmas.List.Sums.{length-filter}
+use Rattle.std.proofs.lemmas.List.Folds.{list_any-append, find-append}
 use Rattle.std.proofs.lemmas.Bool.{false≢true}
 use Rattle.gl_base.specs.Bytes.{same_bytes}
 use Rattle.gl_vmaps.specs.LastWrite.{last_such}
@@ -10,11 +11,12 @@ use Rattle.gl_vmaps.proofs.LastWrites.{last_such-cons}
 use Rattle.gl_shares.specs.declared.share.Share.{Share}
 use Rattle.gl_requests.specs.declared.action.Action.{Action}
 use Rattle.gl_requests.specs.declared.action.Action.TheVariants as actions
+use Rattle.gl_requests.specs.declared.request.MemberRequest.{MemberRequest}
 use Rattle.gl_requests.specs.declared.request.MemberAct.{MemberAct}
 use Rattle.gl_requests.specs.declared.request.MemberAct.TheVariants as acts
 use Rattle.gl_requests.specs.declared.request.GovernanceRequest.{GovernanceRequest}
 use Rattle.gl_requests.specs.declared.request.GovernanceRequest.TheVariants as requests
-use Rattle.gl_gov_rules.specs.History.{History}
+use Rattle.gl_gov_rules.specs.History.{History, SignedBy, nothing}
 use Rattle.gl_gov_rules.specs.declared.change.Recorded.{Recorded}
 use Rattle.gl_gov_rules.specs.declared.change.Change.{Change}
 use Rattle.gl_gov_rules.specs.declared.change.Change.TheVariants as changes
@@ -22,15 +24,15 @@ use Rattle.gl_gov_rules.specs.declared.change.Changed.{Changed}
 use Rattle.gl_gov_rules.specs.declared.request_facts.Mark.{Mark}
 use Rattle.gl_gov_rules.specs.declared.request_facts.GivenShare.{GivenShare}
 use Rattle.gl_gov_rules.specs.declared.request_facts.Signed.{Signed}
-use Rattle.gl_gov_rules.specs.Members.{is_removed, has_acked, removes_member, is_ack_by, is_by, leaf_after, leaf_after_last}
+use Rattle.gl_gov_rules.specs.Members.{is_removed, has_acked, removes_member, is_ack_by, is_acked_by, is_by, leaf_after, leaf_after_last}
 use Rattle.gl_gov_rules.specs.declared.change.RecordedNode.{RecordedNode}
 use Rattle.gl_gov_rules.specs.declared.request_facts.Trust.{Trust}
 use Rattle.gl_gov_rules.specs.declared.request_facts.Retirement.{Retirement}
-use Rattle.gl_gov_rules.specs.Nodes.{retirement, is_marked, is_trust_applied, mark, marks, trusts, retires}
-use Rattle.gl_gov_rules.specs.Service.{last_clearing, shares_given, share_in, share_after}
-use Rattle.gl_gov_rules.specs.Proposals.{proposals, settling_in, settlings, is_ballot, is_answer_on, same_answer, has_answered, ballot_on, ballot_in, ballot_in_act, ballots_on, is_vote}
-use Rattle.gl_gov_rules.specs.RequestFacts.{removed_in, trust_in, retirement_in, mark_in, given_in, given_share, signed_by, signed_in}
-use Rattle.gl_gov_rules.specs.Index.{removed, trusts_of, retirements_of, marks_of, given, signed, made, AreLeavesSmall, last_leaf, next_or_zero, first_mark, is_retirement_of, first_retirement, given_after}
+use Rattle.gl_gov_rules.specs.Nodes.{retirement, is_marked, is_trust_applied, mark, first_mark, marks, trusts, retires}
+use Rattle.gl_gov_rules.specs.Service.{last_clearing, shares_given, share_in, share_after, given_in, given_share, given, given_after}
+use Rattle.gl_gov_rules.specs.Proposals.{proposals, settling_in, settlings, is_ballot, is_answer_on, same_answer, answer_in_act, answer_in, answers_of, is_answer, has_answered, ballot_carried, ballot_on, ballot_in, ballot_in_act, ballots_on, is_vote}
+use Rattle.gl_gov_rules.specs.RequestFacts.{removed_in, trust_in, retirement_in, mark_in, signed_by, signed_in}
+use Rattle.gl_gov_rules.specs.Index.{removed, trusts_of, retirements_of, marks_of, signed, made, AreLeavesSmall, last_leaf, next_or_zero, is_retirement_of, first_retirement}
 
 -- ---- any of what is reported
 
@@ -227,11 +229,40 @@ is_ballot_reported id agrees n seqno (requests.Join x) = refl
 is_ballot_reported id agrees n seqno (requests.Mark other) = refl
 is_ballot_reported id agrees n seqno (requests.Member m) = answered_by id agrees n seqno m.member m.act
 
+act_answers : (id : List ℕ) (agrees : Bool) (n : ℕ) (m : MemberRequest) (a : MemberAct) →
+    (nat_eq m.member n && is_answer_on id agrees a) ≡ list_any (is_answer id agrees n) (cons_option (answer_in_act m.member a) [])
+act_answers id agrees n m acts.Ack = never (nat_eq m.member n)
+act_answers id agrees n m (acts.Propose list) = never (nat_eq m.member n)
+act_answers id agrees n m (acts.Ballot on given) = alone (nat_eq m.member n && (same_bytes on id && same_answer given agrees))
+act_answers id agrees n m (acts.Withdraw on) = never (nat_eq m.member n)
+act_answers id agrees n m (acts.Share share) = never (nat_eq m.member n)
+
+-- a request is a member's ballot where the answer that it gives is
+pub is_ballot_answer : (id : List ℕ) (agrees : Bool) (n : ℕ) (g : GovernanceRequest) → is_ballot id n agrees g ≡ list_any (is_answer id agrees n) (cons_option (answer_in g) [])
+is_ballot_answer id agrees n (requests.Genesis g) = refl
+is_ballot_answer id agrees n (requests.Recover r) = refl
+is_ballot_answer id agrees n (requests.Join x) = refl
+is_ballot_answer id agrees n (requests.Mark other) = refl
+is_ballot_answer id agrees n (requests.Member m) = act_answers id agrees n m m.act
+
+-- a member's answer is among those of the requests where its ballot is among them
+pub answers_any : (rs : List Recorded) (id : List ℕ) (agrees : Bool) (n : ℕ) →
+    list_any (λ (r : Recorded). is_ballot id n agrees r.request) rs ≡ list_any (is_answer id agrees n) (filter_map (λ (r : Recorded). answer_in r.request) rs)
+answers_any rs id agrees n =
+    any_reported (λ (r : Recorded). is_ballot id n agrees r.request) (λ (r : Recorded). answer_in r.request) (is_answer id agrees n) (λ r. is_ballot_answer id agrees n r.request) rs
+
 -- a member's answer is among the ballots
-pub answered_any : (rs : List Recorded) (id : List ℕ) (agrees : Bool) (n : ℕ) → has_answered rs id agrees n ≡ list_any (is_vote n agrees) (ballots_on id rs)
-unfolding has_answered ballots_on
-answered_any rs id agrees n =
-    any_reported (λ (r : Recorded). is_ballot id n agrees r.request) (ballot_on id) (is_vote n agrees) (λ r. is_ballot_reported id agrees n r.seqno r.request) rs
+pub answered_any : (h : History) (id : List ℕ) (agrees : Bool) (n : ℕ) → has_answered (answers_of h) id agrees n ≡ list_any (is_vote n agrees) (ballots_on id h)
+unfolding has_answered answers_of ballots_on
+answered_any h id agrees n =
+    let told = filter_map (λ (r : Recorded). answer_in r.request) h.requests in
+    list_any-append (is_answer id agrees n) h.carried.ballots told
+    ∙ ap (λ (b : Bool). b || list_any (is_answer id agrees n) told)
+    (any_reported (is_answer id agrees n) (ballot_carried id) (is_vote n agrees) (λ a. vote_if n agrees a.agrees (same_bytes a.id id) 0 a.member) h.carried.ballots)
+    ∙ ap (λ (b : Bool). list_any (is_vote n agrees) (filter_map (ballot_carried id) h.carried.ballots) || b)
+    (sym (answers_any h.requests id agrees n)
+    ∙ any_reported (λ (r : Recorded). is_ballot id n agrees r.request) (ballot_on id) (is_vote n agrees) (λ r. is_ballot_reported id agrees n r.seqno r.request) h.requests)
+    ∙ sym (list_any-append (is_vote n agrees) (filter_map (ballot_carried id) h.carried.ballots) (filter_map (ballot_on id) h.requests))
 
 -- ---- shares
 
@@ -257,7 +288,7 @@ share_reported : (q s : ℕ) (o : Option Share) → cond (nat_lt q s) o None ≡
 share_reported q s None = none_either (nat_lt q s)
 share_reported q s (Some share) = refl
 
-given_since : (q : ℕ) (rs : List Recorded) → filter_map (share_after q) rs ≡ filter_map (given_after q) (filter_map (λ (r : Recorded). given_in r.seqno r.request) rs)
+pub given_since : (q : ℕ) (rs : List Recorded) → filter_map (share_after q) rs ≡ filter_map (given_after q) (filter_map (λ (r : Recorded). given_in r.seqno r.request) rs)
 given_since q rs = map_reported (share_after q) (λ (r : Recorded). given_in r.seqno r.request) (given_after q) (λ r. share_reported q r.seqno (share_in r.request)) rs
 
 count_given : (q : ℕ) (gs : List GivenShare) → length (filter (λ (g : GivenShare). nat_lt q g.seqno) gs) ≡ length (filter_map (given_after q) gs)
@@ -269,12 +300,6 @@ count_given q (g ∷ gs) = by (nat_lt q g.seqno) (count_given q gs)
         ≡ length (cons_option (cond b (Some g.share) None) (filter_map (given_after q) gs))
     by true rest = ap suc rest
     by false rest = rest
-
-given_count : (q : ℕ) (rs : List Recorded) →
-    count_by (λ (g : GivenShare). nat_lt q g.seqno) (filter_map (λ (r : Recorded). given_in r.seqno r.request) rs) ≡ length (filter_map (share_after q) rs)
-given_count q rs =
-    let gs = filter_map (λ (r : Recorded). given_in r.seqno r.request) rs in
-    sym (length-filter (λ (g : GivenShare). nat_lt q g.seqno) gs) ∙ count_given q gs ∙ ap length (sym (given_since q rs))
 
 -- ---- leaves
 
@@ -294,14 +319,14 @@ last_is : (ss : List Signed) → slice_get ss (length ss - 1) ≡ last_of ss
 last_is [] = refl
 last_is (s ∷ ss) = let e : suc (length ss) - 1 ≡ length ss = omega arith in rw e (last_there s ss)
 
-leaf_alone : (n : ℕ) (r : Recorded) (g : GovernanceRequest) → g ≡ r.request → leaf_after_last (cond (is_by n g) (Some r) None) ≡ next_or_zero (signed_by n r.seqno g)
+leaf_alone : (n : ℕ) (r : Recorded) (g : GovernanceRequest) → g ≡ r.request → leaf_after_last 0 (cond (is_by n g) (Some r) None) ≡ next_or_zero (signed_by n r.seqno g)
 leaf_alone n r (requests.Genesis x) e = refl
 leaf_alone n r (requests.Recover x) e = refl
 leaf_alone n r (requests.Join x) e = refl
 leaf_alone n r (requests.Mark id) e = refl
 leaf_alone n r (requests.Member m) e = by (nat_eq m.member n)
   where
-    by : (b : Bool) → leaf_after_last (cond b (Some r) None) ≡ next_or_zero (cond b (Some (signed_in r.seqno m)) None)
+    by : (b : Bool) → leaf_after_last 0 (cond b (Some r) None) ≡ next_or_zero (cond b (Some (signed_in r.seqno m)) None)
     by true = ap leaf_after (sym e)
     by false = refl
 
@@ -314,7 +339,7 @@ is_reported n seqno (requests.Member m) = elim (nat_eq m.member n) as (λ (b : B
 
 record SameLast (o : Option Recorded) (p : Option Signed) : Type 0 where
   there : is_some o ≡ is_some p
-  leaf : leaf_after_last o ≡ next_or_zero p
+  leaf : leaf_after_last 0 o ≡ next_or_zero p
 
 both_or : (o a : Option Recorded) (p b : Option Signed) → SameLast o p → SameLast a b → SameLast (option_or o a) (option_or p b)
 both_or None a None b first second = second
@@ -345,19 +370,19 @@ last_reported n (r ∷ rs) =
 
 -- the last request that a member signed has the last leaf that is told of it
 pub next_of_last : (n : ℕ) (rs : List Recorded) →
-    leaf_after_last (last_such (λ (r : Recorded). is_by n r.request) rs) ≡ last_leaf (filter_map (λ (r : Recorded). signed_by n r.seqno r.request) rs)
+    leaf_after_last 0 (last_such (λ (r : Recorded). is_by n r.request) rs) ≡ last_leaf (filter_map (λ (r : Recorded). signed_by n r.seqno r.request) rs)
 next_of_last n rs = (last_reported n rs).leaf ∙ sym (ap next_or_zero (last_is (filter_map (λ (r : Recorded). signed_by n r.seqno r.request) rs)))
 
-small_or : (o a : Option Recorded) → leaf_after_last o ≤ 1024 → leaf_after_last a ≤ 1024 → leaf_after_last (option_or o a) ≤ 1024
+small_or : (o a : Option Recorded) → leaf_after_last 0 o ≤ 1024 → leaf_after_last 0 a ≤ 1024 → leaf_after_last 0 (option_or o a) ≤ 1024
 small_or None a first second = second
 small_or (Some r) a first second = first
 
-small_if : (r : Recorded) (b : Bool) → leaf_after r.request ≤ 1024 → leaf_after_last (cond b (Some r) None) ≤ 1024
+small_if : (r : Recorded) (b : Bool) → leaf_after r.request ≤ 1024 → leaf_after_last 0 (cond b (Some r) None) ≤ 1024
 small_if r true small = small
 small_if r false small = omega arith
 
 -- and it is one of a tree of 1,024
-pub last_small : (n : ℕ) (rs : List Recorded) → AreLeavesSmall rs → leaf_after_last (last_such (λ (r : Recorded). is_by n r.request) rs) ≤ 1024
+pub last_small : (n : ℕ) (rs : List Recorded) → AreLeavesSmall rs → leaf_after_last 0 (last_such (λ (r : Recorded). is_by n r.request) rs) ≤ 1024
 last_small n [] small = omega arith
 last_small n (r ∷ rs) small =
     rw (last_such-cons (λ (x : Recorded). is_by n x.request) r rs) (small_or _ _ (last_small n rs small.1) (small_if r (is_by n r.request) small.0))
@@ -368,17 +393,30 @@ pub removed_is : (h : History) (n : ℕ) → is_removed h n ≡ list_any (λ (m 
 unfolding is_removed removed
 removed_is h n = removed_any n h.changes
 
-pub acked_is : (h : History) (n : ℕ) → has_acked h n ≡ list_any (λ (t : Signed). t.is_ack) (signed n h)
+pub acked_is : (h : History) (n : ℕ) → h.carried.signed ≡ [] → has_acked h n ≡ list_any (λ (t : Signed). t.is_ack) (signed n h)
 unfolding has_acked signed
-acked_is h n = acked_any n h.requests
+acked_is h n bare =
+    ap (λ (ss : List SignedBy). list_any (is_acked_by n) ss || list_any (λ (r : Recorded). is_ack_by n r.request) h.requests) bare ∙ acked_any n h.requests
 
 pub marked_is : (h : History) (id : List ℕ) → is_marked h id ≡ list_any (λ (m : Mark). same_bytes id m.id) (marks_of h)
 unfolding is_marked marks_of
-marked_is h id = marked_any id h.requests
+marked_is h id =
+    let is_its : Mark → Bool = λ (m : Mark). same_bytes id m.id in
+    ap (λ (b : Bool). list_any is_its h.carried.marks || b) (marked_any id h.requests)
+    ∙ sym (list_any-append is_its h.carried.marks (filter_map (λ (r : Recorded). mark_in r.seqno r.request) h.requests))
+
+first_mark-append : (id : List ℕ) (ms more : List Mark) → first_mark id (ms ++ more) ≡ option_or (first_mark id ms) (first_mark id more)
+first_mark-append id ms more =
+    ap (option_map (λ (m : Mark). m.seqno)) (find-append (λ (m : Mark). same_bytes id m.id) ms more) ∙ by (find (λ (m : Mark). same_bytes id m.id) ms) (find (λ (m : Mark). same_bytes id m.id) more)
+  where
+    by : (o p : Option Mark) → option_map (λ (m : Mark). m.seqno) (option_or o p) ≡ option_or (option_map (λ (m : Mark). m.seqno) o) (option_map (λ (m : Mark). m.seqno) p)
+    by None p = refl
+    by (Some m) p = refl
 
 pub mark_is : (h : History) (id : List ℕ) → mark h id ≡ first_mark id (marks_of h)
 unfolding mark marks_of
-mark_is h id = mark_first id h.requests
+mark_is h id =
+    ap (option_or (first_mark id h.carried.marks)) (mark_first id h.requests) ∙ sym (first_mark-append id h.carried.marks (filter_map (λ (r : Recorded). mark_in r.seqno r.request) h.requests))
 
 pub trust_is : (h : History) (id : List ℕ) → is_trust_applied h id ≡ list_any (λ (t : Trust). same_bytes id t.id) (trusts_of h)
 unfolding is_trust_applied trusts_of
@@ -389,13 +427,13 @@ unfolding retirement retirements_of
 removal_is h n = retirement_first n h.changes
 
 pub shares_are : (h : History) → shares_given h ≡ filter_map (given_after (last_clearing h)) (given h)
-unfolding shares_given given
-shares_are h = given_since (last_clearing h) h.requests
+unfolding shares_given
+shares_are h = refl
 
 pub shares_count : (h : History) → length (shares_given h) ≡ count_by (λ (g : GivenShare). nat_lt (last_clearing h) g.seqno) (given h)
-unfolding shares_given given
-shares_count h = sym (given_count (last_clearing h) h.requests)
+unfolding shares_given
+shares_count h = sym (count_given (last_clearing h) (given h)) ∙ length-filter (λ (g : GivenShare). nat_lt (last_clearing h) g.seqno) (given h)
 
-pub settlings_are : (h : History) → settlings h ≡ map (settling_in h.changes) (made h.requests)
+pub settlings_are : (rs : List Recorded) (cs : List Changed) → settlings (record { carried = nothing; requests = rs; changes = cs }) ≡ map (settling_in cs) (made rs)
 unfolding settlings proposals
-settlings_are h = refl
+settlings_are rs cs = refl

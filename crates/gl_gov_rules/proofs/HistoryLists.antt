@@ -1,6 +1,6 @@
 -- The two lists of a history: its requests are those it is of, its changes have the seqnos of
 -- requests, and one request more adds to the changes and to the nodes.
-use Rattle.std.proofs.Common.{◌≡◌, ℕ, ◌<◌, List, [], ◌∷◌, ◌++◌, map, fold, sym, ◌∙◌, ap, subst, append-nil}
+use Rattle.std.proofs.Common.{◌≡◌, ℕ, ◌<◌, List, [], ◌∷◌, ◌++◌, map, fold, sym, ◌∙◌, ap, subst, append-nil, append_assoc}
 use Rattle.std.specs.List.{flat_map, AllByRecursion}
 use Rattle.std.proofs.lemmas.Grind.{flat_map-append}
 use Rattle.gl_base.proofs.Lists.{push-append}
@@ -13,7 +13,7 @@ use Rattle.gl_gov_rules.specs.Nodes.{nodes_recorded, nodes}
 use Rattle.gl_gov_rules.specs.Changes.{changes_of, changed_at, with_request, history}
 use Rattle.gl_gov_rules.specs.Governed.{IsAbove}
 use Rattle.gl_gov_rules.proofs.Counting.{each_append}
-use Rattle.gl_gov_rules.proofs.Prefixes.{requests_with, changes_with, requests_more}
+use Rattle.gl_gov_rules.proofs.Prefixes.{history-more, requests_with, changes_with}
 
 -- ---- requests
 
@@ -51,14 +51,13 @@ changes_below n rs above = below_onto n no_history rs tt above
 -- ---- nodes
 
 pub nodes_after : (h : History) (r : Recorded) → nodes (with_request h r) ≡ nodes h ++ nodes_recorded r.seqno r.request
-unfolding nodes
+unfolding nodes with_request
 nodes_after h r =
     let f : Recorded → List RecordedNode = λ (x : Recorded). nodes_recorded x.seqno x.request in
-    ap (flat_map f) (requests_with h r) ∙ flat_map-append f h.requests (r ∷ []) ∙ ap (λ (ns : List RecordedNode). flat_map f h.requests ++ ns) (append-nil (nodes_recorded r.seqno r.request))
+    ap (λ (ns : List RecordedNode). h.carried.nodes ++ ns)
+    (flat_map-append f h.requests (r ∷ []) ∙ ap (λ (ns : List RecordedNode). flat_map f h.requests ++ ns) (append-nil (nodes_recorded r.seqno r.request)))
+    ∙ sym (append_assoc h.carried.nodes (flat_map f h.requests) (nodes_recorded r.seqno r.request))
 
 -- one request more records its nodes after all others
 pub nodes_more : (rs : List Recorded) (r : Recorded) → nodes (history (rs ++ r ∷ [])) ≡ nodes (history rs) ++ nodes_recorded r.seqno r.request
-unfolding nodes
-nodes_more rs r =
-    let f : Recorded → List RecordedNode = λ (x : Recorded). nodes_recorded x.seqno x.request in
-    ap (flat_map f) (requests_more rs r) ∙ flat_map-append f (history rs).requests (r ∷ []) ∙ ap (λ (ns : List RecordedNode). flat_map f (history rs).requests ++ ns) (append-nil (nodes_recorded r.seqno r.request))
+nodes_more rs r = ap nodes (history-more rs r) ∙ nodes_after (history rs) r

@@ -22,10 +22,10 @@ use Rattle.gl_gov_rules.specs.declared.change.Change.{Change}
 use Rattle.gl_gov_rules.specs.declared.change.Change.TheVariants as changes
 use Rattle.gl_gov_rules.specs.declared.change.Changed.{Changed}
 use Rattle.gl_gov_rules.specs.declared.refusal.Cause.{Cause}
-use Rattle.gl_gov_rules.specs.History.{History, last_set}
+use Rattle.gl_gov_rules.specs.History.{History, last_set, Answered}
 use Rattle.gl_gov_rules.specs.Service as service
 use Rattle.gl_gov_rules.specs.Service.{sets_identity, identity, is_recovered}
-use Rattle.gl_gov_rules.specs.Proposals.{proposal}
+use Rattle.gl_gov_rules.specs.Proposals.{proposal, answers_with}
 use Rattle.gl_gov_rules.specs.Actions.{first_bad_action}
 use Rattle.gl_gov_rules.specs.Tally.{tally, is_accepted, is_rejected}
 use Rattle.gl_gov_rules.specs.Changes.{first_rules, set_member, founding_changes, acceptance_changes, ballot_changes, ballot_changes_on, is_complete, act_changes, request_changes, changes_of, changed_at, history}
@@ -102,31 +102,31 @@ ballot_leaves h s id t list = by_count (is_accepted h t list) (is_rejected h t l
     by_count false true = refl
     by_count false false = refl
 
-act_leaves : (h : History) (rs : List Recorded) (s : ℕ) (a : MemberAct) → leave_key (act_changes h rs s a) ≡ true
-act_leaves h rs s acts.Ack = refl
-act_leaves h rs s (acts.Propose list) = refl
-act_leaves h rs s (acts.Ballot id agrees) = on (proposal h id)
+act_leaves : (h : History) (given : List Answered) (s : ℕ) (a : MemberAct) → leave_key (act_changes h given s a) ≡ true
+act_leaves h given s acts.Ack = refl
+act_leaves h given s (acts.Propose list) = refl
+act_leaves h given s (acts.Ballot id agrees) = on (proposal h id)
   where
-    on : (o : Option Proposal) → leave_key (ballot_changes_on h rs s id o) ≡ true
+    on : (o : Option Proposal) → leave_key (ballot_changes_on h given s id o) ≡ true
     on None = refl
-    on (Some p) = ballot_leaves h s id (tally h rs id) p.actions
-act_leaves h rs s (acts.Withdraw id) = refl
-act_leaves h rs s (acts.Share share) = by_count (is_complete h)
+    on (Some p) = ballot_leaves h s id (tally h given id) p.actions
+act_leaves h given s (acts.Withdraw id) = refl
+act_leaves h given s (acts.Share share) = by_count (is_complete h)
   where
     by_count : (b : Bool) → leave_key (if b then changes.Completed ∷ [] else []) ≡ true
     by_count true = refl
     by_count false = refl
 
-request_leaves : (h : History) (rs : List Recorded) (s : ℕ) (q : GovernanceRequest) → is_founding q ≡ false → is_recovery q ≡ false → leave_key (request_changes h rs s q) ≡ true
-request_leaves h rs s (requests.Genesis g) founds recovers = absurd cc
-request_leaves h rs s (requests.Recover r) founds recovers = absurd cc
-request_leaves h rs s (requests.Join n) founds recovers = refl
-request_leaves h rs s (requests.Mark id) founds recovers = refl
-request_leaves h rs s (requests.Member m) founds recovers = act_leaves h rs s m.act
+request_leaves : (h : History) (given : List Answered) (s : ℕ) (q : GovernanceRequest) → is_founding q ≡ false → is_recovery q ≡ false → leave_key (request_changes h given s q) ≡ true
+request_leaves h given s (requests.Genesis g) founds recovers = absurd cc
+request_leaves h given s (requests.Recover r) founds recovers = absurd cc
+request_leaves h given s (requests.Join n) founds recovers = refl
+request_leaves h given s (requests.Mark id) founds recovers = refl
+request_leaves h given s (requests.Member m) founds recovers = act_leaves h given s m.act
 
 brought_leave : (h : History) (r : Recorded) → is_founding r.request ≡ false → is_recovery r.request ≡ false → leave_key (changes_of h r) ≡ true
 unfolding changes_of
-brought_leave h r founds recovers = request_leaves h (h.requests ++ r ∷ []) r.seqno r.request founds recovers
+brought_leave h r founds recovers = request_leaves h (answers_with h r.request) r.seqno r.request founds recovers
 
 -- ---- the key stays
 

@@ -3,6 +3,7 @@ mod ByRequests
 pub mod Settled
 mod FactsAtSeqno
 pub mod HistoryIndex
+pub mod NothingCarried
 pub mod Rising
 pub mod Cutting
 pub mod CutLists

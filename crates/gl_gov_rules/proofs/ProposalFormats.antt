@@ -11,13 +11,12 @@ use Rattle.gl_vmaps.specs.Writes.{is_write}
 use Rattle.gl_requests.specs.Encoding.{counted_bytes, action_bytes}
 use Rattle.gl_requests.specs.Ranges.{is_action, is_action_count}
 use Rattle.gl_requests.proofs.Sizes.{sized_length}
-use Rattle.gl_gov_rules.specs.declared.change.Recorded.{Recorded}
 use Rattle.gl_gov_rules.specs.declared.change.Proposal.{Proposal}
 use Rattle.gl_gov_rules.specs.declared.change.ProposalState.{ProposalState}
 use Rattle.gl_gov_rules.specs.declared.change.ProposalState.TheVariants as states
 use Rattle.gl_gov_rules.specs.declared.row.Vote.{Vote}
-use Rattle.gl_gov_rules.specs.History.{History}
-use Rattle.gl_gov_rules.specs.Proposals.{proposal_state, has_answered}
+use Rattle.gl_gov_rules.specs.History.{History, Answered}
+use Rattle.gl_gov_rules.specs.Proposals.{proposal_state, has_answered, answers_of}
 use Rattle.gl_gov_rules.specs.Rows.{proposals_map, proposal_byte, vote_of, member_numbers, votes, vote_bytes, proposal_row, proposal_write}
 use Rattle.gl_gov_rules.specs.Governed.{IsBoundedProposal}
 use Rattle.gl_gov_rules.proofs.Digests.{bytes-append, one_byte, length_bytes, flat_bytes, sized_bytes}
@@ -36,8 +35,8 @@ proposal_byte_byte states.Dropped = refl
 abbrev is_vote : Vote → Bool
 is_vote v = is_byte v.member
 
-vote_fits : (rs : List Recorded) (id : List ℕ) (number : ℕ) → is_byte number ≡ true → IfSome (vote_of rs id number) (λ (v : Vote). is_vote v ≡ true)
-vote_fits rs id number byte = by_answer (has_answered rs id true number) (has_answered rs id false number)
+vote_fits : (given : List Answered) (id : List ℕ) (number : ℕ) → is_byte number ≡ true → IfSome (vote_of given id number) (λ (v : Vote). is_vote v ≡ true)
+vote_fits given id number byte = by_answer (has_answered given id true number) (has_answered given id false number)
   where
     by_answer : (agreed refused : Bool) →
         IfSome (if agreed then Some (record { member = number; agrees = true }) else (if refused then Some (record { member = number; agrees = false }) else None)) (λ (v : Vote). is_vote v ≡ true)
@@ -45,9 +44,9 @@ vote_fits rs id number byte = by_answer (has_answered rs id true number) (has_an
     by_answer false true = byte
     by_answer false false = tt
 
-votes_fit : (rs : List Recorded) (id : List ℕ) → list_all is_vote (votes rs id) ≡ true
+votes_fit : (given : List Answered) (id : List ℕ) → list_all is_vote (votes given id) ≡ true
 unfolding votes
-votes_fit rs id = all_found is_byte is_vote (vote_of rs id) (vote_fits rs id) member_numbers refl
+votes_fit given id = all_found is_byte is_vote (vote_of given id) (vote_fits given id) member_numbers refl
 
 -- no more is found than there is to look at
 found_few : {A B : Type 0} (f : A → Option B) (xs : List A) → length (filter_map f xs) ≤ length xs
@@ -58,9 +57,9 @@ found_few {A} {B} f (x ∷ xs) = put (f x) (found_few f xs)
     put None few = omega (arith, few)
     put (Some y) few = omega (arith, few)
 
-votes_few : (rs : List Recorded) (id : List ℕ) → length (votes rs id) ≤ 255
+votes_few : (given : List Answered) (id : List ℕ) → length (votes given id) ≤ 255
 unfolding votes
-votes_few rs id = found_few (vote_of rs id) member_numbers
+votes_few given id = found_few (vote_of given id) member_numbers
 
 vote_are_bytes : (v : Vote) → is_vote v ≡ true → are_bytes (vote_bytes v) ≡ true
 vote_are_bytes v fits = one_byte v.member (flag_byte v.agrees ∷ []) fits (one_byte (flag_byte v.agrees) [] (flag_byte_byte v.agrees) refl)
@@ -76,7 +75,7 @@ proposal_row_fits h p fits bounded =
     let both = and_parts (is_digest p.id) (is_byte p.proposer) fits in
     let id = sized_length 32 p.id both.0 in
     let list = flat_map action_bytes p.actions in
-    let ballots = votes h.requests p.id in
+    let ballots = votes (answers_of h) p.id in
     let prefix = proposal_byte (proposal_state h p) ∷ p.proposer ∷ [] in
     let asked = with_u32_length list in
     let said = counted_bytes vote_bytes ballots in
@@ -92,11 +91,11 @@ proposal_row_fits h p fits bounded =
       length-little_endian 4 (length list),
       length-little_endian 1 (length ballots),
       length-votes ballots,
-      votes_few h.requests p.id,
+      votes_few (answers_of h) p.id,
       bounded.small,
     ))
     (bytes-append (prefix ++ asked) said
     (bytes-append prefix asked
     (one_byte (proposal_byte (proposal_state h p)) (p.proposer ∷ []) (proposal_byte_byte (proposal_state h p)) (one_byte p.proposer [] both.1 refl))
     (length_bytes list listed))
-    (counted_are_bytes vote_bytes is_vote ballots vote_are_bytes (votes_fit h.requests p.id)))
+    (counted_are_bytes vote_bytes is_vote ballots vote_are_bytes (votes_fit (answers_of h) p.id)))

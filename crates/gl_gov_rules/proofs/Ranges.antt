@@ -1,5 +1,5 @@
 -- What is applied, and the keys that are named, are in their ranges, since requests are.
-use Rattle.std.proofs.Common.{◌≡◌, ℕ, List, [], ◌∷◌, ◌++◌, length, map, Option, None, Some, IfSome, is_some, Bool, true, false, ◌&&◌, if◌then◌else◌, nat_lt, find, filter_map, reverse, refl, ◌∙◌, ap}
+use Rattle.std.proofs.Common.{◌≡◌, ℕ, List, [], ◌∷◌, ◌++◌, length, map, Option, None, Some, IfSome, is_some, Bool, true, false, ◌&&◌, if◌then◌else◌, nat_lt, find, filter_map, reverse, refl, ◌∙◌, ap, append_assoc, sym}
 use Rattle.std.specs.List.{list_all, cons_option}
 use Rattle.std.proofs.lemmas.Bool.{and_parts, and_from}
 use Rattle.std.proofs.lemmas.List.Elements.{filter_map-append}
@@ -23,15 +23,15 @@ use Rattle.gl_gov_rules.specs.declared.change.Change.TheVariants as changes
 use Rattle.gl_gov_rules.specs.declared.change.Changed.{Changed}
 use Rattle.gl_gov_rules.specs.declared.change.Tally.{Tally}
 use Rattle.gl_gov_rules.specs.declared.refusal.Cause.{Cause}
-use Rattle.gl_gov_rules.specs.History.{History, set_by, last_set}
+use Rattle.gl_gov_rules.specs.History.{History, set_by, last_set, Answered}
 use Rattle.gl_gov_rules.specs.Service.{sets_rules, constitution, sets_dealing, dealing, sets_identity, identity}
-use Rattle.gl_gov_rules.specs.Proposals.{proposal_in_act, proposal_in, proposals, has_proposal_id, proposal}
+use Rattle.gl_gov_rules.specs.Proposals.{proposal_in_act, proposal_in, proposals, has_proposal_id, proposal, answers_with}
 use Rattle.gl_gov_rules.specs.Actions.{first_bad_action}
 use Rattle.gl_gov_rules.specs.Tally.{tally, is_accepted, is_rejected}
-use Rattle.gl_gov_rules.specs.Changes.{set_member, founding_changes, acceptance_changes, ballot_changes, ballot_changes_on, act_changes, request_changes, is_complete, changes_of, changed_at, history}
+use Rattle.gl_gov_rules.specs.Changes.{set_member, founding_changes, acceptance_changes, ballot_changes, ballot_changes_on, act_changes, request_changes, is_complete, changes_of, changed_at, history, with_request}
 use Rattle.gl_gov_rules.specs.Governed.{Follows, IsGoverned}
 use Rattle.gl_gov_rules.proofs.Counting.{all_append, all_reverse, all_find}
-use Rattle.gl_gov_rules.proofs.Prefixes.{requests_more, changes_more, governed_induction}
+use Rattle.gl_gov_rules.proofs.Prefixes.{changes_more, governed_induction, history-more}
 
 -- ---- the last thing set
 
@@ -87,12 +87,16 @@ abbrev pub are_proposals : List Proposal → Bool
 are_proposals ps = list_all (λ (p : Proposal). are_actions p.actions) ps
 
 -- a request more makes a proposal more, or none
+proposals_after : (h : History) (r : Recorded) → proposals (with_request h r) ≡ proposals h ++ filter_map (λ (q : Recorded). proposal_in q.seqno q.request) (r ∷ [])
+unfolding proposals with_request
+proposals_after h r =
+    let made : Recorded → Option Proposal = λ (q : Recorded). proposal_in q.seqno q.request in
+    ap (λ (ps : List Proposal). h.carried.proposals ++ ps) (filter_map-append made h.requests (r ∷ []))
+    ∙ sym (append_assoc h.carried.proposals (filter_map made h.requests) (filter_map made (r ∷ [])))
+
 pub proposals_more : (rs : List Recorded) (r : Recorded) →
     proposals (history (rs ++ r ∷ [])) ≡ proposals (history rs) ++ filter_map (λ (q : Recorded). proposal_in q.seqno q.request) (r ∷ [])
-unfolding proposals
-proposals_more rs r =
-    ap (filter_map (λ (q : Recorded). proposal_in q.seqno q.request)) (requests_more rs r)
-    ∙ filter_map-append (λ (q : Recorded). proposal_in q.seqno q.request) (history rs).requests (r ∷ [])
+proposals_more rs r = ap proposals (history-more rs r) ∙ proposals_after (history rs) r
 
 pub member_act : (m : MemberRequest) → is_member_request m ≡ true → is_act m.act ≡ true
 member_act m fits =
@@ -153,28 +157,28 @@ found_in_range h id all = go (find (has_proposal_id id) (proposals h)) refl
     go None e = tt
     go (Some p) e = all_find (λ (q : Proposal). are_actions q.actions) (has_proposal_id id) (proposals h) p all e
 
-ballot_on_in_range : (h : History) (rs : List Recorded) (seqno : ℕ) (id : List ℕ) (o : Option Proposal) → IfSome o (λ (p : Proposal). are_actions p.actions ≡ true) →
-    are_changes (map (changed_at seqno) (ballot_changes_on h rs seqno id o)) ≡ true
-ballot_on_in_range h rs seqno id None e = refl
-ballot_on_in_range h rs seqno id (Some p) e = ballot_in_range h seqno id (tally h rs id) p.actions (and_parts (is_action_count (length p.actions)) (list_all is_action p.actions) e).1
+ballot_on_in_range : (h : History) (given : List Answered) (seqno : ℕ) (id : List ℕ) (o : Option Proposal) → IfSome o (λ (p : Proposal). are_actions p.actions ≡ true) →
+    are_changes (map (changed_at seqno) (ballot_changes_on h given seqno id o)) ≡ true
+ballot_on_in_range h given seqno id None e = refl
+ballot_on_in_range h given seqno id (Some p) e = ballot_in_range h seqno id (tally h given id) p.actions (and_parts (is_action_count (length p.actions)) (list_all is_action p.actions) e).1
 
-act_in_range : (h : History) (rs : List Recorded) (seqno : ℕ) (act : MemberAct) → are_proposals (proposals h) ≡ true → are_changes (map (changed_at seqno) (act_changes h rs seqno act)) ≡ true
-act_in_range h rs seqno (acts.Ballot id agrees) all = ballot_on_in_range h rs seqno id (proposal h id) (found_in_range h id all)
-act_in_range h rs seqno (acts.Withdraw id) all = refl
-act_in_range h rs seqno (acts.Share share) all = complete (is_complete h)
+act_in_range : (h : History) (given : List Answered) (seqno : ℕ) (act : MemberAct) → are_proposals (proposals h) ≡ true → are_changes (map (changed_at seqno) (act_changes h given seqno act)) ≡ true
+act_in_range h given seqno (acts.Ballot id agrees) all = ballot_on_in_range h given seqno id (proposal h id) (found_in_range h id all)
+act_in_range h given seqno (acts.Withdraw id) all = refl
+act_in_range h given seqno (acts.Share share) all = complete (is_complete h)
   where
     complete : (b : Bool) → are_changes (map (changed_at seqno) (if b then changes.Completed ∷ [] else [])) ≡ true
     complete true = refl
     complete false = refl
-act_in_range h rs seqno other all = refl
+act_in_range h given seqno other all = refl
 
-brought_in_range : (h : History) (rs : List Recorded) (seqno : ℕ) (q : GovernanceRequest) → is_request q ≡ true → are_proposals (proposals h) ≡ true →
-    are_changes (map (changed_at seqno) (request_changes h rs seqno q)) ≡ true
-brought_in_range h rs seqno (requests.Genesis g) fits all = founding_in_range seqno g fits
-brought_in_range h rs seqno (requests.Recover r) fits all =
+brought_in_range : (h : History) (given : List Answered) (seqno : ℕ) (q : GovernanceRequest) → is_request q ≡ true → are_proposals (proposals h) ≡ true →
+    are_changes (map (changed_at seqno) (request_changes h given seqno q)) ≡ true
+brought_in_range h given seqno (requests.Genesis g) fits all = founding_in_range seqno g fits
+brought_in_range h given seqno (requests.Recover r) fits all =
     let key = (and_parts (are_sized 60 r.identity) (are_counted is_node r.nodes) fits).0 in and_from (are_sized 60 r.identity) true key refl
-brought_in_range h rs seqno (requests.Member m) fits all = act_in_range h rs seqno m.act all
-brought_in_range h rs seqno other fits all = refl
+brought_in_range h given seqno (requests.Member m) fits all = act_in_range h given seqno m.act all
+brought_in_range h given seqno other fits all = refl
 
 -- ---- the whole
 
@@ -194,7 +198,7 @@ in_range_more rs r all follows before =
           (one_more (proposal_in r.seqno r.request) (proposed_in_range r.seqno r.request follows.fits))),
       rw (changes_more rs r)
           (all_append (λ (c : Changed). is_change c.change) h.changes _ before.1
-          (brought_in_range h (h.requests ++ r ∷ []) r.seqno r.request follows.fits before.0)),
+          (brought_in_range h (answers_with h r.request) r.seqno r.request follows.fits before.0)),
     )
 
 -- after requests that follow one another all proposals and changes are in their ranges

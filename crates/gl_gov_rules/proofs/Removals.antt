@@ -17,6 +17,7 @@ use Rattle.gl_gov_rules.specs.Governed.{IsAbove}
 use Rattle.gl_gov_rules.proofs.Finding.{found_at, find_kept, find_new, each_at, map_at}
 use Rattle.gl_gov_rules.proofs.Prefixes.{changes_more}
 use Rattle.gl_gov_rules.proofs.HistoryLists.{requests_of, changes_below, nodes_more}
+use Rattle.gl_gov_rules.proofs.NothingCarried.{nothing_carried, mark_asked}
 
 -- ---- what a removal is
 
@@ -157,19 +158,19 @@ pub record MarkedBy (rs : List Recorded) (id : List ℕ) (s : ℕ) : Type 0 wher
   pub seqno : by.seqno ≡ s
 
 pub mark_read : (rs : List Recorded) (id : List ℕ) (s : ℕ) → mark (history rs) id ≡ Some s → MarkedBy rs id s
-unfolding mark
 mark_read rs id s e =
     go (find (λ (r : Recorded). marks id r.request) rs) refl
-    (ap (λ (xs : List Recorded). option_map (λ (r : Recorded). r.seqno) (find (λ (r : Recorded). marks id r.request) xs)) (sym (requests_of rs)) ∙ e)
+    (ap (λ (xs : List Recorded). option_map (λ (r : Recorded). r.seqno) (find (λ (r : Recorded). marks id r.request) xs)) (sym (requests_of rs))
+    ∙ sym (mark_asked (history rs) id (nothing_carried rs)) ∙ e)
   where
     go : (o : Option Recorded) → find (λ (r : Recorded). marks id r.request) rs ≡ o → option_map (λ (r : Recorded). r.seqno) o ≡ Some s → MarkedBy rs id s
     go None is e = absurd cc
     go (Some r) is e = record { by = r; found = is; seqno = same_Some r.seqno s e }
 
 pub mark_from : (rs : List Recorded) (id : List ℕ) (s : ℕ) → MarkedBy rs id s → mark (history rs) id ≡ Some s
-unfolding mark
 mark_from rs id s m =
-    ap (λ (xs : List Recorded). option_map (λ (r : Recorded). r.seqno) (find (λ (r : Recorded). marks id r.request) xs)) (requests_of rs)
+    mark_asked (history rs) id (nothing_carried rs)
+    ∙ ap (λ (xs : List Recorded). option_map (λ (r : Recorded). r.seqno) (find (λ (r : Recorded). marks id r.request) xs)) (requests_of rs)
     ∙ ap (option_map (λ (r : Recorded). r.seqno)) m.found ∙ ap Some m.seqno
 
 -- a Mark stays

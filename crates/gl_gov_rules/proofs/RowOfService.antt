@@ -22,9 +22,9 @@ use Rattle.gl_gov_rules.specs.declared.change.Change.TheVariants as changes
 use Rattle.gl_gov_rules.specs.declared.change.Changed.{Changed}
 use Rattle.gl_gov_rules.specs.declared.change.Proposal.{Proposal}
 use Rattle.gl_gov_rules.specs.declared.row.ServiceRow.{ServiceRow}
-use Rattle.gl_gov_rules.specs.History.{History, last_set}
+use Rattle.gl_gov_rules.specs.History.{History, last_set, Answered}
 use Rattle.gl_gov_rules.specs.Service.{constitution, dealing, sets_identity, identity, is_recovered, sets_state, service_state, shares_given}
-use Rattle.gl_gov_rules.specs.Proposals.{proposals}
+use Rattle.gl_gov_rules.specs.Proposals.{proposals, answers_with}
 use Rattle.gl_gov_rules.specs.Changes.{first_rules, set_member, request_changes, changes_of, changed_at, history}
 use Rattle.gl_gov_rules.specs.Rows.{service_map, service_key, service_row_of, service_row, service_write, member_write, member_rows, node_write, node_rows, proposal_write, proposal_row, proposal_writes, rule_writes_from, rule_writes_of, dealing_write, share_write, write_of, all_rows, rows, effect}
 use Rattle.gl_gov_rules.specs.Governed.{is_founding, is_nothing, Follows, IsGoverned}
@@ -139,19 +139,19 @@ pub record AreSet (cs : List Changed) : Type 0 where
 abbrev founding_rest : founding.Genesis → List Change
 founding_rest g = changes.Applied (actions.SetConstitution first_rules) ∷ changes.Applied (actions.SetRecoveryThreshold g.dealing) ∷ map set_member g.members
 
-founding_sets : (h : History) (rs : List Recorded) (s : ℕ) (q : GovernanceRequest) → is_founding q ≡ true → AreSet (map (changed_at s) (request_changes h rs s q))
-founding_sets h rs s (requests.Genesis g) founds =
+founding_sets : (h : History) (given : List Answered) (s : ℕ) (q : GovernanceRequest) → is_founding q ≡ true → AreSet (map (changed_at s) (request_changes h given s q))
+founding_sets h given s (requests.Genesis g) founds =
     let first : Changed = changed_at s (changes.Founded g.state g.identity) in
     let rest : List Changed = map (changed_at s) (founding_rest g) in
     record { key = set_by_first sets_identity first rest refl; state = λ recovered. set_by_first (sets_state recovered) first rest refl }
-founding_sets h rs s (requests.Recover r) founds = absurd cc
-founding_sets h rs s (requests.Join n) founds = absurd cc
-founding_sets h rs s (requests.Mark id) founds = absurd cc
-founding_sets h rs s (requests.Member m) founds = absurd cc
+founding_sets h given s (requests.Recover r) founds = absurd cc
+founding_sets h given s (requests.Join n) founds = absurd cc
+founding_sets h given s (requests.Mark id) founds = absurd cc
+founding_sets h given s (requests.Member m) founds = absurd cc
 
 founding_sets_both : (h : History) (r : Recorded) → is_founding r.request ≡ true → AreSet (map (changed_at r.seqno) (changes_of h r))
 unfolding changes_of
-founding_sets_both h r founds = founding_sets h (h.requests ++ r ∷ []) r.seqno r.request founds
+founding_sets_both h r founds = founding_sets h (answers_with h r.request) r.seqno r.request founds
 
 -- what stood in front stays, and what comes after is set
 set_kept : (cs ds : List Changed) → AreSet cs → AreSet (cs ++ ds)

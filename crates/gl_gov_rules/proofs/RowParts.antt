@@ -1,6 +1,6 @@
 -- What the members, nodes, proposals and shares of requests that follow one another are made of is
 -- in its range.
-use Rattle.std.proofs.Common.{◌≡◌, ℕ, List, [], ◌∷◌, ◌++◌, length, map, Option, None, Some, IfSome, Bool, true, false, ◌&&◌, if◌then◌else◌, nat_lt, flat_map, filter_map, refl}
+use Rattle.std.proofs.Common.{◌≡◌, ℕ, List, [], ◌∷◌, ◌++◌, length, map, Option, None, Some, IfSome, Bool, true, false, ◌&&◌, if◌then◌else◌, nat_lt, flat_map, filter_map, refl, sym, subst}
 use Rattle.std.specs.List.{list_all, cons_option}
 use Rattle.std.proofs.lemmas.Bool.{and_parts, and_from}
 use Rattle.gl_base.specs.Bytes.{is_byte, is_digest, are_sized}
@@ -26,7 +26,7 @@ use Rattle.gl_gov_rules.specs.Members.{member_named, members}
 use Rattle.gl_gov_rules.specs.Nodes.{recorded_node, nodes_recorded, nodes}
 use Rattle.gl_gov_rules.specs.Service.{share_in_act, share_in, share_after, last_clearing, shares_given}
 use Rattle.gl_gov_rules.specs.Proposals.{proposal_in_act, proposal_in, proposals}
-use Rattle.gl_gov_rules.specs.History.{History}
+use Rattle.gl_gov_rules.specs.History.{History, nothing}
 use Rattle.gl_gov_rules.specs.Changes.{history}
 use Rattle.gl_gov_rules.specs.Governed.{Follows, IsGoverned}
 use Rattle.gl_gov_rules.proofs.Counting.{all_append}
@@ -34,6 +34,7 @@ use Rattle.gl_gov_rules.proofs.Prefixes.{requests_more, history_of_none, governe
 use Rattle.gl_gov_rules.proofs.Ranges.{is_change, are_changes, member_act}
 use Rattle.gl_gov_rules.proofs.Digests.{sha256_digest}
 use Rattle.gl_gov_rules.proofs.EncodedParts.{number_byte}
+use Rattle.gl_gov_rules.proofs.NothingCarried.{nodes_asked, proposals_asked, shares_asked}
 
 -- ---- lists
 
@@ -117,9 +118,10 @@ nodes_of_request seqno (requests.Join n) fits = and_from (is_recorded_node (reco
 nodes_of_request seqno other fits = refl
 
 -- where requests are in their ranges, so are the nodes
-pub nodes_fit : (h : History) → are_requests h.requests ≡ true → list_all is_recorded_node (nodes h) ≡ true
-unfolding nodes
-nodes_fit h all = all_given (λ (r : Recorded). is_request r.request) is_recorded_node (λ (r : Recorded). nodes_recorded r.seqno r.request) (λ r e. nodes_of_request r.seqno r.request e) h.requests all
+pub nodes_fit : (h : History) → h.carried ≡ nothing → are_requests h.requests ≡ true → list_all is_recorded_node (nodes h) ≡ true
+nodes_fit h bare all =
+    subst (λ (ns : List RecordedNode). list_all is_recorded_node ns ≡ true) (sym (nodes_asked h bare))
+    (all_given (λ (r : Recorded). is_request r.request) is_recorded_node (λ (r : Recorded). nodes_recorded r.seqno r.request) (λ r e. nodes_of_request r.seqno r.request e) h.requests all)
 
 -- ---- proposals
 
@@ -141,9 +143,10 @@ proposed_fits seqno (requests.Member m) fits = made_fits seqno m m.act fits
 proposed_fits seqno other fits = tt
 
 -- where requests are in their ranges, so is who made a proposal, and its identifier
-pub proposals_fit : (h : History) → are_requests h.requests ≡ true → list_all is_made_proposal (proposals h) ≡ true
-unfolding proposals
-proposals_fit h all = all_found (λ (r : Recorded). is_request r.request) is_made_proposal (λ (r : Recorded). proposal_in r.seqno r.request) (λ r e. proposed_fits r.seqno r.request e) h.requests all
+pub proposals_fit : (h : History) → h.carried ≡ nothing → are_requests h.requests ≡ true → list_all is_made_proposal (proposals h) ≡ true
+proposals_fit h bare all =
+    subst (λ (ps : List Proposal). list_all is_made_proposal ps ≡ true) (sym (proposals_asked h bare))
+    (all_found (λ (r : Recorded). is_request r.request) is_made_proposal (λ (r : Recorded). proposal_in r.seqno r.request) (λ r e. proposed_fits r.seqno r.request e) h.requests all)
 
 -- ---- shares
 
@@ -167,6 +170,7 @@ share_fits from r fits = late (nat_lt from r.seqno)
     late false = tt
 
 -- where requests are in their ranges, so are the shares that were given
-pub shares_fit : (h : History) → are_requests h.requests ≡ true → list_all is_given_share (shares_given h) ≡ true
-unfolding shares_given
-shares_fit h all = all_found (λ (r : Recorded). is_request r.request) is_given_share (share_after (last_clearing h)) (share_fits (last_clearing h)) h.requests all
+pub shares_fit : (h : History) → h.carried ≡ nothing → are_requests h.requests ≡ true → list_all is_given_share (shares_given h) ≡ true
+shares_fit h bare all =
+    subst (λ (ss : List Share). list_all is_given_share ss ≡ true) (sym (shares_asked h bare))
+    (all_found (λ (r : Recorded). is_request r.request) is_given_share (share_after (last_clearing h)) (share_fits (last_clearing h)) h.requests all)

@@ -14,7 +14,7 @@ use Rattle.gl_requests.specs.declared.genesis.NewMember.{NewMember}
 use Rattle.gl_gov_rules.specs.declared.change.Recorded.{Recorded}
 use Rattle.gl_gov_rules.specs.declared.change.RecordedNode.{RecordedNode}
 use Rattle.gl_gov_rules.specs.declared.change.Proposal.{Proposal}
-use Rattle.gl_gov_rules.specs.History.{History}
+use Rattle.gl_gov_rules.specs.History.{History, nothing}
 use Rattle.gl_gov_rules.specs.Members.{members}
 use Rattle.gl_gov_rules.specs.Nodes.{nodes}
 use Rattle.gl_gov_rules.specs.Service.{constitution, dealing, identity, is_recovered, service_state, shares_given}
@@ -28,6 +28,7 @@ use Rattle.gl_gov_rules.proofs.Bounded.{is_bounded}
 use Rattle.gl_gov_rules.proofs.RowParts.{are_requests, requests_fit, members_fit, is_recorded_node, nodes_fit, is_made_proposal, proposals_fit, is_given_share, shares_fit}
 use Rattle.gl_gov_rules.proofs.RowFormats.{rules_rows_fit, dealing_row_fits, member_row_fits, node_row_fits, service_row_fits, share_row_fits}
 use Rattle.gl_gov_rules.proofs.ProposalFormats.{proposal_row_fits}
+use Rattle.gl_gov_rules.proofs.NothingCarried.{nothing_carried}
 
 -- all of these writes are within the limits
 abbrev all_fit : List Write → Type 0
@@ -84,9 +85,9 @@ share_rows_fit (s ∷ ss) all =
 
 -- ---- all rows
 
-all_rows_fit : (h : History) → IsBounded h → are_changes h.changes ≡ true → are_requests h.requests ≡ true → all_fit (all_rows h)
+all_rows_fit : (h : History) → h.carried ≡ nothing → IsBounded h → are_changes h.changes ≡ true → are_requests h.requests ≡ true → all_fit (all_rows h)
 unfolding all_rows
-all_rows_fit h bounded changed asked =
+all_rows_fit h bare bounded changed asked =
     let rules = rule_writes_of (constitution h) in
     let dealt = write_of dealing_write (dealing h) in
     let membership = map member_write (member_rows h) in
@@ -95,16 +96,16 @@ all_rows_fit h bounded changed asked =
     let given = map share_write (shares_given h) in
     let a = fit-append rules dealt (rules_rows_fit (constitution h) bounded.rules) (dealing_row_fits (dealing h) bounded.dealt) in
     let b = fit-append (rules ++ dealt) membership a (members_rows_fit h (members_fit h changed)) in
-    let c = fit-append (rules ++ dealt ++ membership) recorded b (nodes_rows_fit h (nodes_fit h asked) bounded.endorsements) in
-    let d = fit-append (rules ++ dealt ++ membership ++ recorded) (proposal_writes h) c (proposals_rows_fit h (proposals_fit h asked) bounded.proposed) in
+    let c = fit-append (rules ++ dealt ++ membership) recorded b (nodes_rows_fit h (nodes_fit h bare asked) bounded.endorsements) in
+    let d = fit-append (rules ++ dealt ++ membership ++ recorded) (proposal_writes h) c (proposals_rows_fit h (proposals_fit h bare asked) bounded.proposed) in
     let e = fit-append (rules ++ dealt ++ membership ++ recorded ++ proposal_writes h) service d (service_fits h changed) in
-    fit-append (rules ++ dealt ++ membership ++ recorded ++ proposal_writes h ++ service) given e (share_rows_fit (shares_given h) (shares_fit h asked))
+    fit-append (rules ++ dealt ++ membership ++ recorded ++ proposal_writes h ++ service) given e (share_rows_fit (shares_given h) (shares_fit h bare asked))
 
 -- every row of requests that follow one another fits its format
 pub rows_fit : (rs : List Recorded) → IsGoverned rs → list_all is_write (rows (history rs)) ≡ true
 unfolding rows
 rows_fit rs all =
-    list_all-set_from is_write [] (all_rows (history rs)) refl (all_rows_fit (history rs) (is_bounded rs all) (are_in_range rs all).1 (requests_fit rs all))
+    list_all-set_from is_write [] (all_rows (history rs)) refl (all_rows_fit (history rs) (nothing_carried rs) (is_bounded rs all) (are_in_range rs all).1 (requests_fit rs all))
 
 -- ---- the writes of a request
 

@@ -22,9 +22,9 @@ use Rattle.gl_gov_rules.specs.declared.change.Change.TheVariants as changes
 use Rattle.gl_gov_rules.specs.declared.change.Changed.{Changed}
 use Rattle.gl_gov_rules.specs.declared.change.Tally.{Tally}
 use Rattle.gl_gov_rules.specs.declared.refusal.Cause.{Cause}
-use Rattle.gl_gov_rules.specs.History.{History}
+use Rattle.gl_gov_rules.specs.History.{History, Answered, nothing}
 use Rattle.gl_gov_rules.specs.Nodes.{recorded_node, nodes_recorded, nodes, node, marks, retires, trusted}
-use Rattle.gl_gov_rules.specs.Proposals.{proposal}
+use Rattle.gl_gov_rules.specs.Proposals.{proposal, answers_with}
 use Rattle.gl_gov_rules.specs.Actions.{first_bad_action}
 use Rattle.gl_gov_rules.specs.Tally.{tally, is_accepted, is_rejected}
 use Rattle.gl_gov_rules.specs.Changes.{founding_changes, acceptance_changes, ballot_changes, ballot_changes_on, is_complete, act_changes, request_changes, changes_of, changed_at, history}
@@ -37,6 +37,7 @@ use Rattle.gl_gov_rules.proofs.Removals.{removal_read, takes_out, node_kept, rec
 use Rattle.gl_gov_rules.proofs.NewNodes.{genesis_new, recovery_new, recorded_new, AreDistinct, nodes_distinct, node_in}
 use Rattle.gl_gov_rules.proofs.Statuses.{mark_removed, marked, is_trusted_in, out_untrusted}
 use Rattle.gl_gov_rules.proofs.TrustedBy.{marked_in, trust_in, IsTrusted, trusted_from, kept_by_request, kept_by_changes, kept_by_between, harmless, SomeTrusted, all_applied, all_kept}
+use Rattle.gl_gov_rules.proofs.NothingCarried.{nothing_carried}
 
 -- ---- marked nodes are recorded
 
@@ -133,13 +134,13 @@ founded rs s q cs n all above accepted at founding other =
 -- ---- Marks
 
 -- a trusted node isn't the one that a Mark may name
-mark_other : (h : History) (s : ℕ) (id : List ℕ) (t : HasTrusted h) → AreDistinct (nodes h) → refusal h s (requests.Mark id) ≡ None → marks t.of.id (requests.Mark id) ≡ false
-mark_other h s id t apart accepted = false_from_ne_true (same_bytes t.of.id id) (λ e.
+mark_other : (h : History) (s : ℕ) (id : List ℕ) → h.carried ≡ nothing → (t : HasTrusted h) → AreDistinct (nodes h) → refusal h s (requests.Mark id) ≡ None → marks t.of.id (requests.Mark id) ≡ false
+mark_other h s id bare t apart accepted = false_from_ne_true (same_bytes t.of.id id) (λ e.
     let removed = mark_removed h s id accepted in
     let read = removal_read h id removed.0 removed.1 in
     let found : node h id ≡ Some t.of = ap (node h) (sym ((bytes_decides t.of.id id).0 e)) ∙ node_in h t.place t.of apart t.stands in
     let same : read.of ≡ t.of = same_Some read.of t.of (sym read.recorded ∙ found) in
-    out_untrusted h read.of read.by read.retired (ap (is_trusted_in h) same ∙ trusted_from h t.of t.is))
+    out_untrusted h read.of read.by read.retired (ap (is_trusted_in h) same ∙ trusted_from h t.of bare t.is))
 
 -- ---- members
 
@@ -152,10 +153,10 @@ quiet h s m c t e =
 none_trusted : (h : History) (s : ℕ) (m : MemberRequest) (t : HasTrusted h) → HasTrustedAfter h s (requests.Member m) []
 none_trusted h s m t = stays_plain h s (requests.Member m) t refl
 
-accepted_trusted : (h : History) (s : ℕ) (m : MemberRequest) (id : List ℕ) (list : List Action) → AreDistinct (nodes h) → HasTrusted h →
+accepted_trusted : (h : History) (s : ℕ) (m : MemberRequest) (id : List ℕ) (list : List Action) → h.carried ≡ nothing → AreDistinct (nodes h) → HasTrusted h →
     (bad : Option (ℕ × Cause)) → first_bad_action h s 1 list ≡ bad → HasTrustedAfter h s (requests.Member m) (acceptance_changes id list bad)
-accepted_trusted h s m id list apart t None is =
-    let after = all_kept h s 1 list apart is t in
+accepted_trusted h s m id list bare apart t None is =
+    let after = all_kept h s 1 list bare apart is t in
     record {
       of = after.of;
       place = after.place;
@@ -163,28 +164,28 @@ accepted_trusted h s m id list apart t None is =
       is = kept_by_request h.requests (h.changes ++ changed_at s (changes.Settled id states.Accepted) ∷ all_applied s list) after.of (one_more s (requests.Member m)) refl
           (kept_by_between h.requests h.changes (all_applied s list) (changed_at s (changes.Settled id states.Accepted)) after.of (harmless after.of s (changes.Settled id states.Accepted) refl) after.is);
     }
-accepted_trusted h s m id list apart t (Some bad) is = quiet h s m (changes.Settled id states.Failed) t refl
+accepted_trusted h s m id list bare apart t (Some bad) is = quiet h s m (changes.Settled id states.Failed) t refl
 
-ballot_trusted : (h : History) (s : ℕ) (m : MemberRequest) (id : List ℕ) (count : Tally) (list : List Action) → AreDistinct (nodes h) → HasTrusted h →
+ballot_trusted : (h : History) (s : ℕ) (m : MemberRequest) (id : List ℕ) (count : Tally) (list : List Action) → h.carried ≡ nothing → AreDistinct (nodes h) → HasTrusted h →
     HasTrustedAfter h s (requests.Member m) (ballot_changes h s id count list)
 unfolding ballot_changes
-ballot_trusted h s m id count list apart t = by (is_accepted h count list) (is_rejected h count list)
+ballot_trusted h s m id count list bare apart t = by (is_accepted h count list) (is_rejected h count list)
   where
     by : (a b : Bool) → HasTrustedAfter h s (requests.Member m) (if a then acceptance_changes id list (first_bad_action h s 1 list) else (if b then changes.Settled id states.Rejected ∷ [] else []))
-    by true b = accepted_trusted h s m id list apart t (first_bad_action h s 1 list) refl
+    by true b = accepted_trusted h s m id list bare apart t (first_bad_action h s 1 list) refl
     by false true = quiet h s m (changes.Settled id states.Rejected) t refl
     by false false = none_trusted h s m t
 
-act_trusted : (h : History) (rs : List Recorded) (s : ℕ) (m : MemberRequest) (act : MemberAct) → AreDistinct (nodes h) → HasTrusted h → HasTrustedAfter h s (requests.Member m) (act_changes h rs s act)
-act_trusted h rs s m acts.Ack apart t = none_trusted h s m t
-act_trusted h rs s m (acts.Propose list) apart t = none_trusted h s m t
-act_trusted h rs s m (acts.Ballot id agrees) apart t = by (proposal h id)
+act_trusted : (h : History) (given : List Answered) (s : ℕ) (m : MemberRequest) (act : MemberAct) → h.carried ≡ nothing → AreDistinct (nodes h) → HasTrusted h → HasTrustedAfter h s (requests.Member m) (act_changes h given s act)
+act_trusted h given s m acts.Ack bare apart t = none_trusted h s m t
+act_trusted h given s m (acts.Propose list) bare apart t = none_trusted h s m t
+act_trusted h given s m (acts.Ballot id agrees) bare apart t = by (proposal h id)
   where
-    by : (o : Option Proposal) → HasTrustedAfter h s (requests.Member m) (ballot_changes_on h rs s id o)
+    by : (o : Option Proposal) → HasTrustedAfter h s (requests.Member m) (ballot_changes_on h given s id o)
     by None = none_trusted h s m t
-    by (Some p) = ballot_trusted h s m id (tally h rs id) p.actions apart t
-act_trusted h rs s m (acts.Withdraw id) apart t = quiet h s m (changes.Settled id states.Withdrawn) t refl
-act_trusted h rs s m (acts.Share share) apart t = by (is_complete h)
+    by (Some p) = ballot_trusted h s m id (tally h given id) p.actions bare apart t
+act_trusted h given s m (acts.Withdraw id) bare apart t = quiet h s m (changes.Settled id states.Withdrawn) t refl
+act_trusted h given s m (acts.Share share) bare apart t = by (is_complete h)
   where
     by : (b : Bool) → HasTrustedAfter h s (requests.Member m) (if b then changes.Completed ∷ [] else [])
     by true = quiet h s m changes.Completed t refl
@@ -197,7 +198,7 @@ abbrev pub IsSomeTrusted : List Recorded → Type 0
 IsSomeTrusted rs = is_nothing rs ≡ false → HasTrusted (history rs)
 
 request_trusted : (rs : List Recorded) (s : ℕ) (q : GovernanceRequest) → IsGoverned rs → IsAbove s rs → refusal (history rs) s q ≡ None → is_founding q ≡ is_nothing rs → IsSomeTrusted rs →
-    HasTrustedAfter (history rs) s q (request_changes (history rs) ((history rs).requests ++ one_more s q ∷ []) s q)
+    HasTrustedAfter (history rs) s q (request_changes (history rs) (answers_with (history rs) q) s q)
 request_trusted rs s (requests.Genesis g) all above accepted first old =
     let n = first_of g.nodes (genesis_new (history rs) s g accepted).some in
     founded rs s (requests.Genesis g) (founding_changes g) (recorded_node s true n.0) all above accepted (map_place (recorded_node s true) g.nodes 0 n.0 n.1) refl refl
@@ -206,11 +207,11 @@ request_trusted rs s (requests.Recover r) all above accepted first old =
     founded rs s (requests.Recover r) (changes.Recovered r.identity ∷ []) (recorded_node s true n.0) all above accepted (map_place (recorded_node s true) r.nodes 0 n.0 n.1) refl refl
 request_trusted rs s (requests.Join n) all above accepted first old = stays_plain (history rs) s (requests.Join n) (old (sym first)) refl
 request_trusted rs s (requests.Mark id) all above accepted first old =
-    stays_plain (history rs) s (requests.Mark id) (old (sym first)) (mark_other (history rs) s id (old (sym first)) (nodes_distinct rs all) accepted)
+    stays_plain (history rs) s (requests.Mark id) (old (sym first)) (mark_other (history rs) s id (nothing_carried rs) (old (sym first)) (nodes_distinct rs all) accepted)
 request_trusted rs s (requests.Member m) all above accepted first old =
-    act_trusted (history rs) ((history rs).requests ++ one_more s (requests.Member m) ∷ []) s m m.act (nodes_distinct rs all) (old (sym first))
+    act_trusted (history rs) (answers_with (history rs) (requests.Member m)) s m m.act (nothing_carried rs) (nodes_distinct rs all) (old (sym first))
 
-changes_are : (h : History) (r : Recorded) → changes_of h r ≡ request_changes h (h.requests ++ r ∷ []) r.seqno r.request
+changes_are : (h : History) (r : Recorded) → changes_of h r ≡ request_changes h (answers_with h r.request) r.seqno r.request
 unfolding changes_of
 changes_are h r = refl
 
@@ -225,14 +226,14 @@ has_trusted : (rs : List Recorded) → IsGoverned rs → IsSomeTrusted rs
 has_trusted = governed_induction IsSomeTrusted (λ e. absurd cc) (λ rs r all follows old some. more_trusted rs r all follows old)
 
 -- a list that something stands in isn't empty
-trusted_length : (h : History) → HasTrusted h → 0 < length (trusted h)
+trusted_length : (h : History) → h.carried ≡ nothing → HasTrusted h → 0 < length (trusted h)
 unfolding trusted
-trusted_length h t =
-    let kept = filter_has (is_trusted_in h) (nodes h) t.place t.of t.stands (trusted_from h t.of t.is) in
+trusted_length h bare t =
+    let kept = filter_has (is_trusted_in h) (nodes h) t.place t.of t.stands (trusted_from h t.of bare t.is) in
     let ids : List (List ℕ) = map (λ (n : RecordedNode). n.id) (filter (is_trusted_in h) (nodes h)) in
     let within = slice_get-within ids kept.0 t.of.id (map_place (λ (n : RecordedNode). n.id) (filter (is_trusted_in h) (nodes h)) kept.0 t.of kept.1) in
     omega (arith, within)
 
 -- some node is trusted
 pub some_trusted : (r : Recorded) (rs : List Recorded) → IsGoverned (r ∷ rs) → 0 < length (trusted (history (r ∷ rs)))
-some_trusted r rs all = trusted_length (history (r ∷ rs)) (has_trusted (r ∷ rs) all refl)
+some_trusted r rs all = trusted_length (history (r ∷ rs)) (nothing_carried (r ∷ rs)) (has_trusted (r ∷ rs) all refl)

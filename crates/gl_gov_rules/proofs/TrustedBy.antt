@@ -16,8 +16,8 @@ use Rattle.gl_gov_rules.specs.declared.change.Change.{Change}
 use Rattle.gl_gov_rules.specs.declared.change.Change.TheVariants as changes
 use Rattle.gl_gov_rules.specs.declared.change.Changed.{Changed}
 use Rattle.gl_gov_rules.specs.declared.refusal.Cause.TheVariants as causes
-use Rattle.gl_gov_rules.specs.History.{History}
-use Rattle.gl_gov_rules.specs.Nodes.{nodes, node, trusts, retires, marks, retirement, is_marked, is_trust_applied, was_trusted, trusted_count}
+use Rattle.gl_gov_rules.specs.History.{History, nothing}
+use Rattle.gl_gov_rules.specs.Nodes.{nodes, node, trusts, retires, marks, retirement, is_trust_applied, was_trusted, trusted_count}
 use Rattle.gl_gov_rules.specs.Actions.{◌orelse◌, where_is, is_pending_node, is_trusted_node, cause_against, at_index, with_applied, first_bad_action}
 use Rattle.gl_gov_rules.specs.Changes.{changed_at}
 use Rattle.gl_gov_rules.proofs.Counting.{find_passes}
@@ -26,6 +26,7 @@ use Rattle.gl_gov_rules.proofs.Finding.{At, another}
 use Rattle.gl_gov_rules.proofs.Removals.{takes_out, retirement_is}
 use Rattle.gl_gov_rules.proofs.NewNodes.{AreDistinct, node_in}
 use Rattle.gl_gov_rules.proofs.Statuses.{is_trusted_in, trusted_is}
+use Rattle.gl_gov_rules.proofs.NothingCarried.{marked_asked}
 
 -- ---- one node
 
@@ -44,10 +45,16 @@ pub record IsTrusted (rs : List Recorded) (cs : List Changed) (n : RecordedNode)
 out_is : (h : History) (n : RecordedNode) → is_some (retirement h n) ≡ list_any (takes_out n) h.changes
 out_is h n = ap is_some (retirement_is h n) ∙ find_passes (takes_out n) h.changes
 
-pub trusted_read : (h : History) (n : RecordedNode) → is_trusted_in h n ≡ true → IsTrusted h.requests h.changes n
-unfolding is_marked was_trusted is_trust_applied
-trusted_read h n e =
-    let a = and_parts (not (marked_in h.requests n.id)) (not (is_some (retirement h n)) && (n.is_founding || trust_in h.changes n.id)) (sym (trusted_is h n) ∙ e) in
+-- where nothing is carried, it is marked by the requests alone
+trusted_asked : (h : History) (n : RecordedNode) → h.carried ≡ nothing →
+    is_trusted_in h n ≡ (not (marked_in h.requests n.id) && (not (is_some (retirement h n)) && (n.is_founding || trust_in h.changes n.id)))
+unfolding was_trusted is_trust_applied
+trusted_asked h n bare =
+    trusted_is h n ∙ ap (λ (b : Bool). not b && (not (is_some (retirement h n)) && (n.is_founding || trust_in h.changes n.id))) (marked_asked h n.id bare)
+
+pub trusted_read : (h : History) (n : RecordedNode) → h.carried ≡ nothing → is_trusted_in h n ≡ true → IsTrusted h.requests h.changes n
+trusted_read h n bare e =
+    let a = and_parts (not (marked_in h.requests n.id)) (not (is_some (retirement h n)) && (n.is_founding || trust_in h.changes n.id)) (sym (trusted_asked h n bare) ∙ e) in
     let b = and_parts (not (is_some (retirement h n))) (n.is_founding || trust_in h.changes n.id) a.1 in
     record {
       unmarked = not-true (marked_in h.requests n.id) a.0;
@@ -55,10 +62,9 @@ trusted_read h n e =
       trust = b.1;
     }
 
-pub trusted_from : (h : History) (n : RecordedNode) → IsTrusted h.requests h.changes n → is_trusted_in h n ≡ true
-unfolding is_marked was_trusted is_trust_applied
-trusted_from h n t =
-    trusted_is h n
+pub trusted_from : (h : History) (n : RecordedNode) → h.carried ≡ nothing → IsTrusted h.requests h.changes n → is_trusted_in h n ≡ true
+trusted_from h n bare t =
+    trusted_asked h n bare
     ∙ and_from (not (marked_in h.requests n.id)) (not (is_some (retirement h n)) && (n.is_founding || trust_in h.changes n.id))
     (not_from_false (marked_in h.requests n.id) t.unmarked)
     (and_from (not (is_some (retirement h n))) (n.is_founding || trust_in h.changes n.id) (not_from_false (is_some (retirement h n)) (out_is h n ∙ t.serves)) t.trust)
@@ -148,9 +154,9 @@ other_trusted g id i n apart none at trusted same =
     (and_from (is_trusted_node g (node g id)) (trusted_count g == 1) (ap (is_trusted_node g) found ∙ trusted) (ap (λ (k : ℕ). k == 1) (count_is g ∙ one))))
 
 -- after an action that can be applied some node is trusted where one was
-pub apply_kept : (g : History) (s : ℕ) (a : Action) → AreDistinct (nodes g) → cause_against g a ≡ None → SomeTrusted (nodes g) g.requests g.changes →
+pub apply_kept : (g : History) (s : ℕ) (a : Action) → g.carried ≡ nothing → AreDistinct (nodes g) → cause_against g a ≡ None → SomeTrusted (nodes g) g.requests g.changes →
     SomeTrusted (nodes g) g.requests (g.changes ++ changed_at s (changes.Applied a) ∷ [])
-apply_kept g s a apart none t = by a none
+apply_kept g s a bare apart none t = by a none
   where
     one : (n : RecordedNode) (c : Change) → retires n.id c ≡ false → list_any (takes_out n) (changed_at s c ∷ []) ≡ false
     one n c e = or_from (takes_out n (changed_at s c)) false (harmless n s c e) refl
@@ -174,7 +180,7 @@ apply_kept g s a apart none t = by a none
           of = m.0;
           place = m.1.place;
           stands = m.1.stands;
-          is = kept_by_changes g.requests g.changes (changed_at s (changes.Applied (actions.RemoveNode id)) ∷ []) m.0 (one m.0 (changes.Applied (actions.RemoveNode id)) differs) (trusted_read g m.0 m.1.passes);
+          is = kept_by_changes g.requests g.changes (changed_at s (changes.Applied (actions.RemoveNode id)) ∷ []) m.0 (one m.0 (changes.Applied (actions.RemoveNode id)) differs) (trusted_read g m.0 bare m.1.passes);
         }
 
     by : (b : Action) → cause_against g b ≡ None → SomeTrusted (nodes g) g.requests (g.changes ++ changed_at s (changes.Applied b) ∷ [])
@@ -186,7 +192,7 @@ apply_kept g s a apart none t = by a none
         ⊎_elim
         (λ (e : same_bytes t.of.id id ≡ true).
         let same = (bytes_decides t.of.id id).0 e in
-        another_one id same (other_trusted g id t.place t.of apart clear t.stands (trusted_from g t.of t.is) same))
+        another_one id same (other_trusted g id t.place t.of apart clear t.stands (trusted_from g t.of bare t.is) same))
         (λ (e : same_bytes t.of.id id ≡ false). still (actions.RemoveNode id) e)
         (cases_Bool (same_bytes t.of.id id))
     by actions.TransitionServiceToOpen clear = still actions.TransitionServiceToOpen refl
@@ -201,14 +207,14 @@ unfolding nodes
 nodes_applied g s a = refl
 
 -- after actions that can be applied in order, too
-pub all_kept : (g : History) (s index : ℕ) (list : List Action) → AreDistinct (nodes g) → first_bad_action g s index list ≡ None → SomeTrusted (nodes g) g.requests g.changes →
+pub all_kept : (g : History) (s index : ℕ) (list : List Action) → g.carried ≡ nothing → AreDistinct (nodes g) → first_bad_action g s index list ≡ None → SomeTrusted (nodes g) g.requests g.changes →
     SomeTrusted (nodes g) g.requests (g.changes ++ all_applied s list)
-all_kept g s index [] apart none t = subst (SomeTrusted (nodes g) g.requests) (sym (append-nil g.changes)) t
-all_kept g s index (a ∷ rest) apart none t =
+all_kept g s index [] bare apart none t = subst (SomeTrusted (nodes g) g.requests) (sym (append-nil g.changes)) t
+all_kept g s index (a ∷ rest) bare apart none t =
     let next : History = with_applied g s a in
     let both = none_of (at_index index (cause_against g a)) (first_bad_action next s (index + 1) rest) none in
-    let one = apply_kept g s a apart (no_cause index (cause_against g a) both.0) t in
+    let one = apply_kept g s a bare apart (no_cause index (cause_against g a) both.0) t in
     let same = nodes_applied g s a in
-    let rest_kept = all_kept next s (index + 1) rest (subst AreDistinct same apart) both.1 (subst (λ (ns : List RecordedNode). SomeTrusted ns next.requests next.changes) same one) in
+    let rest_kept = all_kept next s (index + 1) rest bare (subst AreDistinct same apart) both.1 (subst (λ (ns : List RecordedNode). SomeTrusted ns next.requests next.changes) same one) in
     subst (SomeTrusted (nodes g) g.requests) (push-append g.changes (changed_at s (changes.Applied a)) (all_applied s rest))
     (subst (λ (ns : List RecordedNode). SomeTrusted ns next.requests (next.changes ++ all_applied s rest)) (sym same) rest_kept)

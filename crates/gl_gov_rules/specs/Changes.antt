@@ -18,9 +18,9 @@ use Rattle.gl_gov_rules.specs.declared.change.Change.TheVariants as changes
 use Rattle.gl_gov_rules.specs.declared.change.Changed.{Changed}
 use Rattle.gl_gov_rules.specs.declared.change.Tally.{Tally}
 use Rattle.gl_gov_rules.specs.declared.refusal.Cause.{Cause}
-use Rattle.gl_gov_rules.specs.History.{History, no_history}
+use Rattle.gl_gov_rules.specs.History.{History, Answered, no_history}
 use Rattle.gl_gov_rules.specs.Service.{dealing, threshold_of, shares_given}
-use Rattle.gl_gov_rules.specs.Proposals.{proposal}
+use Rattle.gl_gov_rules.specs.Proposals.{proposal, answers_with}
 use Rattle.gl_gov_rules.specs.Actions.{first_bad_action}
 use Rattle.gl_gov_rules.specs.Tally.{tally, is_accepted, is_rejected}
 
@@ -50,30 +50,31 @@ ballot_changes h seqno id t list =
     if is_accepted h t list then acceptance_changes id list (first_bad_action h seqno 1 list)
     else (if is_rejected h t list then changes.Settled id states.Rejected ∷ [] else [])
 
-abbrev pub ballot_changes_on : History → List Recorded → ℕ → List ℕ → Option Proposal → List Change
-ballot_changes_on h rs seqno id None = []
-ballot_changes_on h rs seqno id (Some p) = ballot_changes h seqno id (tally h rs id) p.actions
+abbrev pub ballot_changes_on : History → List Answered → ℕ → List ℕ → Option Proposal → List Change
+ballot_changes_on h given seqno id None = []
+ballot_changes_on h given seqno id (Some p) = ballot_changes h seqno id (tally h given id) p.actions
 
 -- One more share, with those that were given, is as many as the dealing asks for.
 unfoldable pub is_complete : History → Bool
 is_complete h = nat_le (threshold_of (dealing h)) (suc (length (shares_given h)))
 
-abbrev pub act_changes : History → List Recorded → ℕ → MemberAct → List Change
-act_changes h rs seqno (acts.Ballot id agrees) = ballot_changes_on h rs seqno id (proposal h id)
-act_changes h rs seqno (acts.Withdraw id) = changes.Settled id states.Withdrawn ∷ []
-act_changes h rs seqno (acts.Share share) = if is_complete h then changes.Completed ∷ [] else []
-act_changes h rs seqno other = []
+abbrev pub act_changes : History → List Answered → ℕ → MemberAct → List Change
+act_changes h given seqno (acts.Ballot id agrees) =
+    ballot_changes_on h given seqno id (proposal h id)
+act_changes h given seqno (acts.Withdraw id) = changes.Settled id states.Withdrawn ∷ []
+act_changes h given seqno (acts.Share share) = if is_complete h then changes.Completed ∷ [] else []
+act_changes h given seqno other = []
 
--- What a request brings about after a history; ballots are those among the requests `rs`.
-abbrev pub request_changes : History → List Recorded → ℕ → GovernanceRequest → List Change
-request_changes h rs seqno (requests.Genesis g) = founding_changes g
-request_changes h rs seqno (requests.Recover r) = changes.Recovered r.identity ∷ []
-request_changes h rs seqno (requests.Member m) = act_changes h rs seqno m.act
-request_changes h rs seqno other = []
+-- What a request brings about after a history; the ballots are those among these answers.
+abbrev pub request_changes : History → List Answered → ℕ → GovernanceRequest → List Change
+request_changes h given seqno (requests.Genesis g) = founding_changes g
+request_changes h given seqno (requests.Recover r) = changes.Recovered r.identity ∷ []
+request_changes h given seqno (requests.Member m) = act_changes h given seqno m.act
+request_changes h given seqno other = []
 
 -- The changes that a recorded request brings about: a ballot is counted with those before it.
 unfoldable pub changes_of : History → Recorded → List Change
-changes_of h r = request_changes h (h.requests ++ r ∷ []) r.seqno r.request
+changes_of h r = request_changes h (answers_with h r.request) r.seqno r.request
 
 abbrev pub changed_at : ℕ → Change → Changed
 changed_at seqno c = record { seqno = seqno; change = c }
@@ -81,6 +82,7 @@ changed_at seqno c = record { seqno = seqno; change = c }
 -- The history with one more request.
 unfoldable pub with_request : History → Recorded → History
 with_request h r = record {
+  carried = h.carried;
   requests = h.requests ++ r ∷ [];
   changes = h.changes ++ map (changed_at r.seqno) (changes_of h r);
 }

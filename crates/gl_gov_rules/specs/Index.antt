@@ -1,6 +1,6 @@
 -- What stands beside the requests and the changes of a history, so that no question about members,
 -- nodes, proposals or shares goes through all requests.
-use Rattle.std.specs.Prelude.{◌≡◌, ℕ, ◌+◌, ◌-◌, ◌≤◌, List, Option, None, Some, true, length, find, map, filter_map, option_map, slice_get, nat_lt, nat_eq, Bool, ◌&&◌, if◌then◌else◌, vec_len, vec_capacity}
+use Rattle.std.specs.Prelude.{◌≡◌, ℕ, ◌+◌, ◌-◌, ◌≤◌, ◌++◌, List, Option, None, Some, true, length, find, map, filter_map, option_map, slice_get, nat_lt, nat_eq, Bool, ◌&&◌, vec_len, vec_capacity}
 use Rattle.std.specs.List.{AllByRecursion, flat_map, list_any}
 use Rattle.std.specs.declared.vec.Vec.{Vec}
 use Rattle.std.specs.declared.alloc.Global.{Global}
@@ -17,11 +17,9 @@ use Rattle.gl_gov_rules.specs.declared.change.RecordedNode.{RecordedNode}
 use Rattle.gl_gov_rules.specs.declared.change.Settling.{Settling}
 use Rattle.gl_gov_rules.specs.declared.request_facts.Signed.{Signed}
 use Rattle.gl_gov_rules.specs.declared.request_facts.Mark.{Mark}
-use Rattle.gl_gov_rules.specs.declared.request_facts.GivenShare.{GivenShare}
 use Rattle.gl_gov_rules.specs.declared.request_facts.Trust.{Trust}
 use Rattle.gl_gov_rules.specs.declared.request_facts.Retirement.{Retirement}
 use Rattle.gl_gov_rules.specs.History.{History}
-use Rattle.gl_shares.specs.declared.share.Share.{Share}
 use Rattle.gl_gov_rules.specs.declared.index.ByChange.{ByChange}
 use Rattle.gl_gov_rules.specs.declared.index.ByRequest.{ByRequest}
 use Rattle.gl_gov_rules.specs.declared.index.Added.{Added}
@@ -30,8 +28,9 @@ use Rattle.gl_index.specs.Lists.{lists_of, list_at, HasRoomAt}
 use Rattle.gl_index.specs.KeyedLists.{list_on, HasRoomOn}
 use Rattle.gl_gov_rules.specs.Members.{member_named, leaf_after}
 use Rattle.gl_gov_rules.specs.Nodes.{nodes_recorded}
+use Rattle.gl_gov_rules.specs.Service.{given_in}
 use Rattle.gl_gov_rules.specs.Proposals.{proposal_in, ballot_on, settling_in}
-use Rattle.gl_gov_rules.specs.RequestFacts.{removed_in, trust_in, retirement_in, mark_in, given_in, signed_by}
+use Rattle.gl_gov_rules.specs.RequestFacts.{removed_in, trust_in, retirement_in, mark_in, signed_by}
 
 -- There is room for what a request tells of its signer.
 abbrev pub HasRoomForSigner : List (Vec Signed Global) → GovernanceRequest → Type 0
@@ -106,7 +105,7 @@ pub record IsIndexed (rs : List Recorded) (cs : List Changed) (x : ByChange) (y 
   pub settlings : ss ≡ map (settling_in cs) (made rs)
 
 -- The numbers of the members who were removed, the trusts of nodes, what took nodes out of
--- service, the marks, the shares that were given at any time, and what is told of a signer.
+-- service, the marks, and what requests tell of a signer.
 unfoldable pub removed : History → List ℕ
 removed h = filter_map (λ (c : Changed). removed_in c.change) h.changes
 
@@ -117,10 +116,8 @@ unfoldable pub retirements_of : History → List Retirement
 retirements_of h = filter_map (λ (c : Changed). retirement_in c.seqno c.change) h.changes
 
 unfoldable pub marks_of : History → List Mark
-marks_of h = filter_map (λ (r : Recorded). mark_in r.seqno r.request) h.requests
-
-unfoldable pub given : History → List GivenShare
-given h = filter_map (λ (r : Recorded). given_in r.seqno r.request) h.requests
+marks_of h =
+    h.carried.marks ++ filter_map (λ (r : Recorded). mark_in r.seqno r.request) h.requests
 
 unfoldable pub signed : ℕ → History → List Signed
 signed n h = filter_map (λ (r : Recorded). signed_by n r.seqno r.request) h.requests
@@ -137,11 +134,6 @@ next_or_zero (Some s) = s.next_leaf
 abbrev pub last_leaf : List Signed → ℕ
 last_leaf ss = next_or_zero (slice_get ss (length ss - 1))
 
--- The seqno of the first mark of a node.
-abbrev pub first_mark : List ℕ → List Mark → Option ℕ
-first_mark id ms =
-    option_map (λ (m : Mark). m.seqno) (find (λ (m : Mark). same_bytes id m.id) ms)
-
 -- It takes this node out of service, after the node's own entry.
 abbrev pub is_node_or_all : List ℕ → Option (List ℕ) → Bool
 is_node_or_all id None = true
@@ -154,10 +146,6 @@ is_retirement_of n r = nat_lt n.seqno r.seqno && is_node_or_all n.id r.id
 abbrev pub first_retirement : RecordedNode → List Retirement → Option ℕ
 first_retirement n rs =
     option_map (λ (r : Retirement). r.seqno) (find (is_retirement_of n) rs)
-
--- A share, where it was given after a seqno.
-abbrev pub given_after : ℕ → GivenShare → Option Share
-given_after seqno g = if nat_lt seqno g.seqno then Some g.share else None
 
 -- Two proposals have the same identifier and the same seqno.
 abbrev pub is_same_proposal : Proposal → Proposal → Bool

@@ -15,3 +15,4 @@ pub mod Rising
 pub mod Numbers
 pub mod RequestFacts
 pub mod Index
+pub mod GovernedRows

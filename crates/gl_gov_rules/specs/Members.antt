@@ -1,5 +1,5 @@
 -- Who the members are and were, and the status of each (CCF documentation, "Members").
-use Rattle.std.specs.Prelude.{ℕ, suc, List, Option, None, Some, Bool, true, false, ◌&&◌, not, find, filter_map, count_by, is_some, nat_eq, if◌then◌else◌}
+use Rattle.std.specs.Prelude.{ℕ, suc, List, Option, None, Some, Bool, true, false, ◌&&◌, ◌||◌, not, find, filter_map, count_by, is_some, nat_eq, if◌then◌else◌}
 use Rattle.std.specs.List.{list_any}
 use Rattle.gl_vmaps.specs.LastWrite.{last_such}
 use Rattle.gl_requests.specs.declared.genesis.NewMember.{NewMember}
@@ -14,7 +14,7 @@ use Rattle.gl_gov_rules.specs.declared.change.Change.TheVariants as changes
 use Rattle.gl_gov_rules.specs.declared.change.Changed.{Changed}
 use Rattle.gl_gov_rules.specs.declared.refusal.MemberStatus.{MemberStatus}
 use Rattle.gl_gov_rules.specs.declared.refusal.MemberStatus.TheVariants as statuses
-use Rattle.gl_gov_rules.specs.History.{History}
+use Rattle.gl_gov_rules.specs.History.{History, SignedBy}
 use Rattle.gl_gov_rules.specs.Signatures.{leaf_of}
 
 -- The member whom a change names. Those of a founding come as applied actions.
@@ -56,9 +56,18 @@ abbrev pub is_ack_by : ℕ → GovernanceRequest → Bool
 is_ack_by number (requests.Member m) = nat_eq m.member number && is_ack m.act
 is_ack_by number other = false
 
+-- What is carried is of the member, and tells its Ack.
+abbrev pub is_signer : ℕ → SignedBy → Bool
+is_signer number s = nat_eq s.member number
+
+abbrev pub is_acked_by : ℕ → SignedBy → Bool
+is_acked_by number s = nat_eq s.member number && s.is_ack
+
 -- The member's Ack stands.
 unfoldable pub has_acked : History → ℕ → Bool
-has_acked h number = list_any (λ (r : Recorded). is_ack_by number r.request) h.requests
+has_acked h number =
+    list_any (is_acked_by number) h.carried.signed
+    || list_any (λ (r : Recorded). is_ack_by number r.request) h.requests
 
 -- A member is Removed where a removal of it was applied, else Active where its Ack stands, else
 -- Accepted.
@@ -87,11 +96,17 @@ abbrev pub leaf_after : GovernanceRequest → ℕ
 leaf_after (requests.Member m) = suc (leaf_of m.signature)
 leaf_after other = 0
 
-abbrev pub leaf_after_last : Option Recorded → ℕ
-leaf_after_last None = 0
-leaf_after_last (Some r) = leaf_after r.request
+-- That of the last request; where there is none, what is carried.
+abbrev pub leaf_after_last : ℕ → Option Recorded → ℕ
+leaf_after_last carried None = carried
+leaf_after_last carried (Some r) = leaf_after r.request
+
+abbrev pub leaf_carried : Option SignedBy → ℕ
+leaf_carried None = 0
+leaf_carried (Some s) = s.next_leaf
 
 -- 1 plus the leaf of the last request that the member signed, 0 without one.
 unfoldable pub next_leaf : History → ℕ → ℕ
 next_leaf h number =
-    leaf_after_last (last_such (λ (r : Recorded). is_by number r.request) h.requests)
+    leaf_after_last (leaf_carried (find (is_signer number) h.carried.signed))
+    (last_such (λ (r : Recorded). is_by number r.request) h.requests)

@@ -1,6 +1,7 @@
 -- Which nodes were recorded, and the status of each (CCF documentation, "Nodes").
-use Rattle.std.specs.Prelude.{ℕ, List, [], ◌∷◌, Option, None, Some, Bool, true, false, ◌&&◌, ◌||◌, map, filter, find, flat_map, option_map, count_by, is_some, nat_lt, if◌then◌else◌}
+use Rattle.std.specs.Prelude.{ℕ, List, [], ◌∷◌, ◌++◌, Option, None, Some, Bool, true, false, ◌&&◌, ◌||◌, map, filter, find, flat_map, option_map, count_by, is_some, nat_lt, if◌then◌else◌}
 use Rattle.std.specs.List.{list_any}
+use Rattle.std.specs.Option.{option_or}
 use Rattle.gl_base.specs.Bytes.{same_bytes}
 use Rattle.gl_requests.specs.Encoding.{node_id}
 use Rattle.gl_requests.specs.declared.genesis.NewNode.{NewNode}
@@ -12,6 +13,7 @@ use Rattle.gl_gov_rules.specs.declared.change.RecordedNode.{RecordedNode}
 use Rattle.gl_gov_rules.specs.declared.change.Change.{Change}
 use Rattle.gl_gov_rules.specs.declared.change.Change.TheVariants as changes
 use Rattle.gl_gov_rules.specs.declared.change.Changed.{Changed}
+use Rattle.gl_gov_rules.specs.declared.request_facts.Mark.{Mark}
 use Rattle.gl_gov_rules.specs.declared.refusal.NodeStatus.{NodeStatus}
 use Rattle.gl_gov_rules.specs.declared.refusal.NodeStatus.TheVariants as statuses
 use Rattle.gl_gov_rules.specs.History.{History}
@@ -29,7 +31,8 @@ nodes_recorded seqno other = []
 
 -- All nodes that were ever recorded, in that order.
 unfoldable pub nodes : History → List RecordedNode
-nodes h = flat_map (λ (r : Recorded). nodes_recorded r.seqno r.request) h.requests
+nodes h =
+    h.carried.nodes ++ flat_map (λ (r : Recorded). nodes_recorded r.seqno r.request) h.requests
 
 -- The node with this identifier, if it is recorded.
 abbrev pub has_id : List ℕ → RecordedNode → Bool
@@ -61,7 +64,9 @@ retirement h n =
 
 -- The node's Mark stands.
 unfoldable pub is_marked : History → List ℕ → Bool
-is_marked h id = list_any (λ (r : Recorded). marks id r.request) h.requests
+is_marked h id =
+    list_any (λ (m : Mark). same_bytes id m.id) h.carried.marks
+    || list_any (λ (r : Recorded). marks id r.request) h.requests
 
 -- The node's trust was applied.
 unfoldable pub is_trust_applied : History → List ℕ → Bool
@@ -108,6 +113,13 @@ removal_of h (Some n) = option_map (λ (c : Changed). c.seqno) (retirement h n)
 unfoldable pub removal : History → List ℕ → Option ℕ
 removal h id = removal_of h (node h id)
 
+-- The seqno of the first mark of a node.
+abbrev pub first_mark : List ℕ → List Mark → Option ℕ
+first_mark id ms =
+    option_map (λ (m : Mark). m.seqno) (find (λ (m : Mark). same_bytes id m.id) ms)
+
 unfoldable pub mark : History → List ℕ → Option ℕ
 mark h id =
-    option_map (λ (r : Recorded). r.seqno) (find (λ (r : Recorded). marks id r.request) h.requests)
+    option_or (first_mark id h.carried.marks)
+    (option_map (λ (r : Recorded). r.seqno)
+    (find (λ (r : Recorded). marks id r.request) h.requests))

@@ -1,6 +1,7 @@
 -- Proposals, the ballots on them, and the state of each (CCF documentation, "Proposals").
-use Rattle.std.specs.Prelude.{ℕ, List, [], ◌∷◌, Option, None, Some, Bool, true, false, ◌&&◌, ◌||◌, not, find, map, filter_map, option_map, count_by, nat_lt, nat_le, nat_eq, if◌then◌else◌}
+use Rattle.std.specs.Prelude.{ℕ, List, [], ◌∷◌, ◌++◌, Option, None, Some, Bool, true, false, ◌&&◌, ◌||◌, not, find, map, filter_map, option_map, count_by, nat_lt, nat_le, nat_eq, if◌then◌else◌}
 use Rattle.std.specs.List.{list_any}
+use Rattle.std.specs.Option.{option_to_list}
 use Rattle.gl_base.specs.Bytes.{same_bytes}
 use Rattle.gl_requests.specs.Encoding.{proposal_id}
 use Rattle.gl_requests.specs.declared.action.Action.TheVariants as actions
@@ -18,7 +19,7 @@ use Rattle.gl_gov_rules.specs.declared.change.Change.TheVariants as changes
 use Rattle.gl_gov_rules.specs.declared.change.Changed.{Changed}
 use Rattle.gl_gov_rules.specs.declared.change.Ballot.{Ballot}
 use Rattle.gl_gov_rules.specs.declared.change.Settling.{Settling}
-use Rattle.gl_gov_rules.specs.History.{History}
+use Rattle.gl_gov_rules.specs.History.{History, Answered}
 
 -- The proposal that a request makes.
 abbrev pub proposal_in_act : ℕ → MemberRequest → MemberAct → Option Proposal
@@ -32,7 +33,8 @@ proposal_in seqno other = None
 
 -- All proposals, in order.
 unfoldable pub proposals : History → List Proposal
-proposals h = filter_map (λ (r : Recorded). proposal_in r.seqno r.request) h.requests
+proposals h =
+    h.carried.proposals ++ filter_map (λ (r : Recorded). proposal_in r.seqno r.request) h.requests
 
 -- The proposal with this identifier, if there is one.
 abbrev pub has_proposal_id : List ℕ → Proposal → Bool
@@ -113,13 +115,34 @@ is_ballot id number agrees (requests.Member m) =
     nat_eq m.member number && is_answer_on id agrees m.act
 is_ballot id number agrees other = false
 
--- Among these requests is the member's ballot on this proposal, with this answer; or with any.
-unfoldable pub has_answered : List Recorded → List ℕ → Bool → ℕ → Bool
-has_answered rs id agrees number =
-    list_any (λ (r : Recorded). is_ballot id number agrees r.request) rs
+-- The answer that a request gives.
+abbrev pub answer_in_act : ℕ → MemberAct → Option Answered
+answer_in_act member (acts.Ballot on agrees) =
+    Some (record { id = on; member = member; agrees = agrees })
+answer_in_act member other = None
 
-unfoldable pub has_ballot : List Recorded → List ℕ → ℕ → Bool
-has_ballot rs id number = has_answered rs id true number || has_answered rs id false number
+abbrev pub answer_in : GovernanceRequest → Option Answered
+answer_in (requests.Member m) = answer_in_act m.member m.act
+answer_in other = None
+
+-- All answers, and those with that of one more request.
+unfoldable pub answers_of : History → List Answered
+answers_of h = h.carried.ballots ++ filter_map (λ (r : Recorded). answer_in r.request) h.requests
+
+abbrev pub answers_with : History → GovernanceRequest → List Answered
+answers_with h g = answers_of h ++ option_to_list (answer_in g)
+
+-- The answer is the member's on this proposal.
+abbrev pub is_answer : List ℕ → Bool → ℕ → Answered → Bool
+is_answer id agrees number a =
+    nat_eq a.member number && (same_bytes a.id id && same_answer a.agrees agrees)
+
+-- Among these is the member's ballot on this proposal, with this answer; or with any.
+unfoldable pub has_answered : List Answered → List ℕ → Bool → ℕ → Bool
+has_answered given id agrees number = list_any (is_answer id agrees number) given
+
+unfoldable pub has_ballot : List Answered → List ℕ → ℕ → Bool
+has_ballot given id number = has_answered given id true number || has_answered given id false number
 
 -- The ballot on this proposal that a request gives, if it is one.
 abbrev pub ballot_in_act : List ℕ → ℕ → ℕ → MemberAct → Option Ballot
@@ -135,9 +158,16 @@ ballot_in id seqno other = None
 abbrev pub ballot_on : List ℕ → Recorded → Option Ballot
 ballot_on id r = ballot_in id r.seqno r.request
 
+-- The ballot on this proposal that is carried, if it is one, at seqno 0.
+abbrev pub ballot_carried : List ℕ → Answered → Option Ballot
+ballot_carried id a =
+    if same_bytes a.id id then Some (record { seqno = 0; member = a.member; agrees = a.agrees })
+    else None
+
 -- All ballots on this proposal, in order.
-unfoldable pub ballots_on : List ℕ → List Recorded → List Ballot
-ballots_on id rs = filter_map (ballot_on id) rs
+unfoldable pub ballots_on : List ℕ → History → List Ballot
+ballots_on id h =
+    filter_map (ballot_carried id) h.carried.ballots ++ filter_map (ballot_on id) h.requests
 
 -- The ballot is the member's, with this answer.
 abbrev pub is_vote : ℕ → Bool → Ballot → Bool

@@ -33,7 +33,7 @@ use Rattle.gl_gov_rules.specs.Signatures.{is_signed, leaf_of, is_endorsed}
 use Rattle.gl_gov_rules.specs.Members.{has_number, member, is_ack, is_present, is_active, next_leaf}
 use Rattle.gl_gov_rules.specs.Nodes.{node, nodes, node_status, pending_count}
 use Rattle.gl_gov_rules.specs.Service.{identity, dealing, service_state, shares_given}
-use Rattle.gl_gov_rules.specs.Proposals.{proposal, proposal_state, is_open_state, open_count, has_ballot}
+use Rattle.gl_gov_rules.specs.Proposals.{proposal, proposal_state, is_open_state, open_count, answers_of, has_ballot}
 use Rattle.gl_gov_rules.specs.Actions.{◌orelse◌, where_is, has_key, is_dealing_in_order, first_bad_action}
 use Rattle.gl_gov_rules.specs.Changes.{is_complete}
 
@@ -185,7 +185,7 @@ open_refusal h (Some p) =
 unfoldable pub ballot_refusal : History → ℕ → List ℕ → Option GovernanceRefusal
 ballot_refusal h member id =
     open_refusal h (proposal h id)
-    orelse where_is (has_ballot h.requests id member) refusals.HasBallot
+    orelse where_is (has_ballot (answers_of h) id member) refusals.HasBallot
 
 abbrev pub proposer_refusal : ℕ → Option Proposal → Option GovernanceRefusal
 proposer_refusal member None = None

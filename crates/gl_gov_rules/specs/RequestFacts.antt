@@ -1,8 +1,7 @@
--- What a request tells of a node that it marks, of the share that it gives and of the member who
--- signed it; and what a change tells of the member or the nodes that it removes, and of the node
--- that it trusts. Each is kept beside a history.
-use Rattle.std.specs.Prelude.{ℕ, suc, Option, None, Some, option_map, nat_eq, if◌then◌else◌}
-use Rattle.gl_shares.specs.declared.share.Share.{Share}
+-- What a request tells of a node that it marks, and of the member who signed it; and what a change
+-- tells of the member or the nodes that it removes, and of the node that it trusts. Each is kept
+-- beside a history.
+use Rattle.std.specs.Prelude.{ℕ, suc, Option, None, Some, nat_eq, if◌then◌else◌}
 use Rattle.gl_requests.specs.declared.action.Action.TheVariants as actions
 use Rattle.gl_requests.specs.declared.request.MemberRequest.{MemberRequest}
 use Rattle.gl_requests.specs.declared.request.GovernanceRequest.{GovernanceRequest}
@@ -12,10 +11,8 @@ use Rattle.gl_gov_rules.specs.declared.change.Change.TheVariants as changes
 use Rattle.gl_gov_rules.specs.declared.request_facts.Mark.{Mark}
 use Rattle.gl_gov_rules.specs.declared.request_facts.Trust.{Trust}
 use Rattle.gl_gov_rules.specs.declared.request_facts.Retirement.{Retirement}
-use Rattle.gl_gov_rules.specs.declared.request_facts.GivenShare.{GivenShare}
 use Rattle.gl_gov_rules.specs.declared.request_facts.Signed.{Signed}
 use Rattle.gl_gov_rules.specs.Members.{is_ack}
-use Rattle.gl_gov_rules.specs.Service.{share_in}
 use Rattle.gl_gov_rules.specs.Signatures.{leaf_of}
 
 -- The number of the member whose removal the change applies.
@@ -40,13 +37,6 @@ retirement_in seqno other = None
 abbrev pub mark_in : ℕ → GovernanceRequest → Option Mark
 mark_in seqno (requests.Mark id) = Some (record { id = id; seqno = seqno })
 mark_in seqno other = None
-
--- The share that is given.
-abbrev pub given_share : ℕ → Share → GivenShare
-given_share seqno share = record { seqno = seqno; share = share }
-
-abbrev pub given_in : ℕ → GovernanceRequest → Option GivenShare
-given_in seqno g = option_map (given_share seqno) (share_in g)
 
 -- What is told of its signer.
 abbrev pub signed_in : ℕ → MemberRequest → Signed

@@ -28,11 +28,11 @@ use Rattle.gl_gov_rules.specs.declared.row.ServiceRow.{ServiceRow}
 use Rattle.gl_gov_rules.specs.declared.row.MemberRow.{MemberRow}
 use Rattle.gl_gov_rules.specs.declared.row.NodeRow.{NodeRow}
 use Rattle.gl_gov_rules.specs.declared.row.ProposalRow.{ProposalRow}
-use Rattle.gl_gov_rules.specs.History.{History, seqno_of}
+use Rattle.gl_gov_rules.specs.History.{History, Answered, seqno_of}
 use Rattle.gl_gov_rules.specs.Members.{members, member_status, next_leaf}
 use Rattle.gl_gov_rules.specs.Nodes.{nodes, node_status, retirement}
 use Rattle.gl_gov_rules.specs.Service.{constitution, dealing, identity, is_recovered, service_state, shares_given}
-use Rattle.gl_gov_rules.specs.Proposals.{proposals, proposal_state, has_answered}
+use Rattle.gl_gov_rules.specs.Proposals.{proposals, proposal_state, answers_of, has_answered}
 use Rattle.gl_gov_rules.specs.Changes.{history}
 
 -- The service
@@ -133,20 +133,20 @@ proposal_byte states.Withdrawn = 4
 proposal_byte states.Failed = 5
 proposal_byte states.Dropped = 6
 
--- The member's ballot on a proposal, if it is among these requests.
-abbrev pub vote_of : List Recorded → List ℕ → ℕ → Option Vote
-vote_of rs id number =
-    if has_answered rs id true number then Some (record { member = number; agrees = true })
-    else (if has_answered rs id false number then Some (record { member = number; agrees = false })
-    else None)
+-- The member's ballot on a proposal, if it is among these answers.
+abbrev pub vote_of : List Answered → List ℕ → ℕ → Option Vote
+vote_of given id number =
+    if has_answered given id true number then Some (record { member = number; agrees = true })
+    else (if has_answered given id false number
+    then Some (record { member = number; agrees = false }) else None)
 
 -- All numbers that members may have.
 abbrev pub member_numbers : List ℕ
 member_numbers = range_with_len 1 255
 
 -- The ballots on a proposal, ascending by member.
-unfoldable pub votes : List Recorded → List ℕ → List Vote
-votes rs id = filter_map (vote_of rs id) member_numbers
+unfoldable pub votes : List Answered → List ℕ → List Vote
+votes given id = filter_map (vote_of given id) member_numbers
 
 -- A proposal's row: its state, its proposer, its actions, and its ballots.
 unfoldable pub proposal_row : History → Proposal → ProposalRow
@@ -154,7 +154,7 @@ proposal_row h p = record {
   state = proposal_state h p;
   proposer = p.proposer;
   actions = p.actions;
-  ballots = votes h.requests p.id;
+  ballots = votes (answers_of h) p.id;
 }
 
 abbrev pub vote_bytes : Vote → List ℕ

@@ -1,6 +1,6 @@
 -- What is in force: the constitution, the dealing of the recovery secret, the service's key and its
 -- state, and the shares that members gave (CCF documentation, "Disaster Recovery").
-use Rattle.std.specs.Prelude.{ℕ, List, Option, None, Some, Bool, true, false, filter_map, nat_lt, if◌then◌else◌}
+use Rattle.std.specs.Prelude.{ℕ, List, ◌++◌, Option, None, Some, Bool, true, false, filter_map, option_map, nat_lt, if◌then◌else◌}
 use Rattle.std.specs.List.{list_any}
 use Rattle.gl_vmaps.specs.LastWrite.{last_such}
 use Rattle.gl_shares.specs.declared.share.Share.{Share}
@@ -17,6 +17,7 @@ use Rattle.gl_gov_rules.specs.declared.change.Recorded.{Recorded}
 use Rattle.gl_gov_rules.specs.declared.change.Change.{Change}
 use Rattle.gl_gov_rules.specs.declared.change.Change.TheVariants as changes
 use Rattle.gl_gov_rules.specs.declared.change.Changed.{Changed}
+use Rattle.gl_gov_rules.specs.declared.request_facts.GivenShare.{GivenShare}
 use Rattle.gl_gov_rules.specs.History.{History, last_set, seqno_of}
 
 -- The constitution, the rule of each action in order, is the last one applied.
@@ -94,9 +95,24 @@ abbrev pub share_in : GovernanceRequest → Option Share
 share_in (requests.Member m) = share_in_act m.member m.act
 share_in other = None
 
+-- The share that is given, with its seqno.
+abbrev pub given_share : ℕ → Share → GivenShare
+given_share seqno share = record { seqno = seqno; share = share }
+
+abbrev pub given_in : ℕ → GovernanceRequest → Option GivenShare
+given_in seqno g = option_map (given_share seqno) (share_in g)
+
+-- The shares that were given at any time, in order.
+unfoldable pub given : History → List GivenShare
+given h = h.carried.shares ++ filter_map (λ (r : Recorded). given_in r.seqno r.request) h.requests
+
+-- A share, where it was given after a seqno; and where the request that gives it stands after it.
+abbrev pub given_after : ℕ → GivenShare → Option Share
+given_after seqno g = if nat_lt seqno g.seqno then Some g.share else None
+
 abbrev pub share_after : ℕ → Recorded → Option Share
 share_after seqno r = if nat_lt seqno r.seqno then share_in r.request else None
 
 -- The shares given after the last change that cleared them, in the order in which they were given.
 unfoldable pub shares_given : History → List Share
-shares_given h = filter_map (share_after (last_clearing h)) h.requests
+shares_given h = filter_map (given_after (last_clearing h)) (given h)

@@ -5,25 +5,24 @@ use Rattle.gl_requests.specs.Encoding.{action_number}
 use Rattle.gl_requests.specs.declared.genesis.NewMember.{NewMember}
 use Rattle.gl_requests.specs.declared.action.Rule.{Rule}
 use Rattle.gl_requests.specs.declared.action.Action.{Action}
-use Rattle.gl_gov_rules.specs.declared.change.Recorded.{Recorded}
 use Rattle.gl_gov_rules.specs.declared.change.Tally.{Tally}
-use Rattle.gl_gov_rules.specs.History.{History}
+use Rattle.gl_gov_rules.specs.History.{History, Answered}
 use Rattle.gl_gov_rules.specs.Members.{members, is_active, active_count}
 use Rattle.gl_gov_rules.specs.Service.{constitution}
 use Rattle.gl_gov_rules.specs.Proposals.{has_answered}
 
--- How many of the members who are active gave this answer in these requests.
-unfoldable pub answer_count : History → List Recorded → List ℕ → Bool → ℕ
-answer_count h rs id agrees =
-    count_by (λ (m : NewMember). is_active h m.number && has_answered rs id agrees m.number)
+-- How many of the members who are active gave this answer among these answers.
+unfoldable pub answer_count : History → List Answered → List ℕ → Bool → ℕ
+answer_count h given id agrees =
+    count_by (λ (m : NewMember). is_active h m.number && has_answered given id agrees m.number)
     (members h)
 
--- The ballots on a proposal among these requests, counted again over the members who are active.
-abbrev pub tally : History → List Recorded → List ℕ → Tally
-tally h rs id = record {
+-- The ballots on a proposal among these answers, counted again over the members who are active.
+abbrev pub tally : History → List Answered → List ℕ → Tally
+tally h given id = record {
   all = active_count h;
-  agreed = answer_count h rs id true;
-  refused = answer_count h rs id false;
+  agreed = answer_count h given id true;
+  refused = answer_count h given id false;
 }
 
 -- The rule of an action under a constitution.

@@ -27,12 +27,16 @@ pub struct History {
 }
 
 impl Model for History {
-    ghost use Rattle.gl_gov_rules.specs.History.{History};
+    ghost use Rattle.gl_gov_rules.specs.History.{History, nothing};
     ghost use Rattle.gl_gov_rules.specs.Index.{IsIndexed};
 
     ghost Value = { History };
 
-    ghost view = { λ h. record { requests = h.requests.items; changes = h.changes.items } };
+    ghost view = { λ h. record {
+      carried = nothing;
+      requests = h.requests.items;
+      changes = h.changes.items;
+    } };
 
     ghost invariant = { λ h.
         IsIndexed h.requests.items h.changes.items h.by_change h.by_request
@@ -45,7 +49,8 @@ impl History {
     ghost use Rattle.gl_gov_rules.specs.Members.{members};
     ghost use Rattle.gl_gov_rules.specs.Nodes.{nodes};
     ghost use Rattle.gl_gov_rules.specs.Proposals.{proposals, ballots_on, settlings};
-    ghost use Rattle.gl_gov_rules.specs.Index.{removed, trusts_of, retirements_of, marks_of, given, signed, AreLeavesSmall};
+    ghost use Rattle.gl_gov_rules.specs.Service.{given};
+    ghost use Rattle.gl_gov_rules.specs.Index.{removed, trusts_of, retirements_of, marks_of, signed, AreLeavesSmall};
     ghost use Rattle.gl_gov_rules.specs.Changes.{history};
     ghost use Rattle.gl_gov_rules.specs.Governed.{up_to};
     ghost use Rattle.gl_gov_rules.specs.Rising.{IsRising};
@@ -86,6 +91,7 @@ impl History {
     ) -> Result<(), AllocError>
         requires { is_request recorded.request ≡ true }
         ensures pushed { OnOk result (self.new ≡ record {
+          carried = self.old.carried;
           requests = self.old.requests ++ recorded ∷ [];
           changes = self.old.changes ++ changes.items;
         }) }
@@ -197,7 +203,7 @@ impl History {
     }
 
     /// The shares that were given at any time, in order.
-    #[tactic(auto, unfolding(crate::specs::Index::given))]
+    #[tactic(auto, unfolding(crate::specs::Service::given))]
     pub(crate) fn given(&self) -> &[GivenShare]
         ensures { result.now ≡ given self.now }
     {
@@ -208,6 +214,7 @@ impl History {
     #[tactic(auto, unfolding(crate::specs::Index::signed))]
     pub(crate) fn signed(&self, number: u8) -> &[Signed]
         ensures reported { result.now ≡ signed number self.now }
+        ensures alone { self.now.carried.signed ≡ [] }
         ensures leaves { AreLeavesSmall self.now.requests }
     {
         list_at(&self.by_request.signed, number as usize)
@@ -216,7 +223,7 @@ impl History {
     /// The ballots on a proposal, in order.
     #[tactic(auto, unfolding(crate::specs::Proposals::ballots_on))]
     pub fn ballots(&self, id: &Digest) -> &[Ballot]
-        ensures { result.now ≡ ballots_on id.now self.now.requests }
+        ensures { result.now ≡ ballots_on id.now self.now }
     {
         self.by_request.ballots.on(id)
     }

@@ -110,7 +110,7 @@ pub fn is_ballot(id: &Digest, number: u8, agrees: bool, request: &GovernanceRequ
 }
 
 impl History {
-    ghost use Rattle.gl_gov_rules.specs.Proposals.{proposal, proposal_state, open_count, has_answered, has_ballot};
+    ghost use Rattle.gl_gov_rules.specs.Proposals.{proposal, proposal_state, open_count, answers_of, has_answered, has_ballot};
 
     /// The proposal with this identifier, if there is one.
     #[tactic(auto, unfolding(crate::specs::Proposals::proposal))]
@@ -154,7 +154,7 @@ impl History {
     /// Whether the member gave this answer to this proposal.
     #[tactic(auto, using(crate::proofs::HistoryIndex::answered_any))]
     pub fn has_answered(&self, id: &Digest, agrees: bool, number: u8) -> bool
-        ensures { result ≡ has_answered self.now.requests id.now agrees number }
+        ensures { result ≡ has_answered (answers_of self.now) id.now agrees number }
     {
         has_vote(self.ballots(id), agrees, number)
     }
@@ -162,7 +162,7 @@ impl History {
     /// Whether the member answered this proposal.
     #[tactic(auto, unfolding(crate::specs::Proposals::has_ballot))]
     pub fn has_ballot(&self, id: &Digest, number: u8) -> bool
-        ensures { result ≡ has_ballot self.now.requests id.now number }
+        ensures { result ≡ has_ballot (answers_of self.now) id.now number }
     {
         self.has_answered(id, true, number) || self.has_answered(id, false, number)
     }

@@ -4,7 +4,8 @@ ghost use Rattle.std.specs.Prelude.{◌≡◌, ℕ, ◌≤◌, ◌++◌, ◌∷�
 ghost use Rattle.std.specs.Option.{option_to_list};
 ghost use Rattle.gl_gov_rules.specs.Members.{leaf_after};
 ghost use Rattle.gl_index.specs.Lists.{lists_of, list_at, HasRoomAt};
-ghost use Rattle.gl_gov_rules.specs.RequestFacts.{removed_in, trust_in, retirement_in, mark_in, given_in, signed_in, signed_by};
+ghost use Rattle.gl_gov_rules.specs.Service.{given_in};
+ghost use Rattle.gl_gov_rules.specs.RequestFacts.{removed_in, trust_in, retirement_in, mark_in, signed_in, signed_by};
 ghost use Rattle.gl_gov_rules.specs.Index.{HasRoomForSigner};
 
 use crate::change::{Ballot, Change, Proposal, Recorded, RecordedNode};

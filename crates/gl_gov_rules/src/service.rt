@@ -4,7 +4,7 @@
 ghost use Rattle.std.specs.Prelude.{◌≡◌, filter_map, length, IfOk};
 ghost use Rattle.std.specs.Option.{option_copied};
 ghost use Rattle.gl_gov_rules.specs.Service.{sets_rules, sets_dealing, sets_identity, sets_state, clears_shares};
-ghost use Rattle.gl_gov_rules.specs.Index.{given_after};
+ghost use Rattle.gl_gov_rules.specs.Service.{given_after};
 
 use crate::change::Change;
 use crate::history::History;

@@ -23,7 +23,8 @@ use Rattle.gl_ledger.specs.NodeKeys.{NodeKeys}
 use Rattle.gl_ledger.specs.declared.recording.Recording.{Recording}
 use Rattle.gl_ledger.specs.declared.recording.Recording.TheVariants as recordings
 use Rattle.gl_ledger.specs.Recordings.{last_entry, recording_of, recorded_nodes}
-use Rattle.gl_ledger.specs.Broken.{is_unopened, broken_by, signs_at, commit_after, commit_from, last_commit, is_later_commit, may_record, broken}
+use Rattle.gl_ledger.specs.Past.{commit_after, commit_from, is_unopened, last_commit, past_of, signs_at}
+use Rattle.gl_ledger.specs.Broken.{broken_by, is_later_commit, may_record, broken}
 use Rattle.gl_ledger.specs.LedgerBook.{ledger_book}
 use Rattle.gl_ledger.proofs.Passing.{passed, Passes, passing}
 use Rattle.gl_ledger.proofs.Lawful.{unbroken}
@@ -51,7 +52,7 @@ module _ (layers : Layers) (keys : NodeKeys) where
       go a b c = omega arith
 
   -- a signature's commit is not below the last one, and stands within the ledger with it
-  signed_commit : (ledger : List Entry) (s : signatures.Signature) (commit : ℕ) → KeepsCommits ledger → may_record ledger commit ≡ true → (last_commit ledger ≤ commit) × (commit ≤ length ledger + 1)
+  signed_commit : (ledger : List Entry) (s : signatures.Signature) (commit : ℕ) → KeepsCommits ledger → may_record (past_of ledger) commit ≡ true → (last_commit ledger ≤ commit) × (commit ≤ length ledger + 1)
   signed_commit ledger s commit k h = go (is_unopened (last_entry ledger)) h
     where
       placed : (n : ℕ) → signs_at (entry_at ledger n) ≡ true → n ≤ length ledger
@@ -62,7 +63,7 @@ module _ (layers : Layers) (keys : NodeKeys) where
           found None is w = absurd (cc)
           found (Some e) is w = let u = slice_get-within ledger n e is in omega arith
 
-      go : (t : Bool) → (if t then commit == length ledger + 1 else is_later_commit ledger commit) ≡ true → (last_commit ledger ≤ commit) × (commit ≤ length ledger + 1)
+      go : (t : Bool) → (if t then commit == length ledger + 1 else is_later_commit (past_of ledger) commit) ≡ true → (last_commit ledger ≤ commit) × (commit ≤ length ledger + 1)
       go true w = let u : commit ≡ length ledger + 1 = grind (arith, nat_tests) in (omega (arith, k.within), omega arith)
       go false w =
           let one = and_parts (signs_at (entry_at ledger commit) && nat_le (last_commit ledger) commit) _ w in
@@ -86,10 +87,10 @@ module _ (layers : Layers) (keys : NodeKeys) where
           length (ledger ++ e ∷ []) ≡ length ledger + 1 → KeepsCommits (ledger ++ e ∷ [])
       go (content.Signature s) is c g l =
           let is_read : p.recording ≡ recordings.Signature s = let w = sym p.reads ∙ ap recording_of is in cc in
-          let all : broken_by layers (recordings.Signature s) ledger e ≡ None = ap (λ (t : Recording). broken_by layers t ledger e) (sym is_read) ∙ p.rest in
+          let all : broken_by layers (recordings.Signature s) (past_of ledger) e ≡ None = ap (λ (t : Recording). broken_by layers t (past_of ledger) e) (sym is_read) ∙ p.rest in
           let one = passed (member s.node (recorded_nodes ledger)) _ _ all in
           let two = passed (same_bytes s.root (root_of (leaves_of ledger))) _ _ one.1 in
-          let three = passed (may_record ledger s.commit) _ _ two.1 in
+          let three = passed (may_record (past_of ledger) s.commit) _ _ two.1 in
           let low = signed_commit ledger s s.commit k three.0 in
           let c' : last_commit (ledger ++ e ∷ []) ≡ s.commit = c ∙ ap (commit_after (last_commit ledger)) is in
           let g' : greatest_recorded (ledger_book layers keys) (ledger ++ e ∷ []) ≡ max (greatest_recorded (ledger_book layers keys) ledger) s.commit =

@@ -28,6 +28,7 @@ use Rattle.gl_ledger.specs.declared.recording.Recording.{Recording}
 use Rattle.gl_ledger.specs.declared.recording.Recording.TheVariants as recordings
 use Rattle.gl_ledger.specs.Recordings.{requests_of, removal, mark, recording_of}
 use Rattle.gl_ledger.specs.declared.breach.Broken.{Broken}
+use Rattle.gl_ledger.specs.Past.{past_of}
 use Rattle.gl_ledger.specs.Broken.{broken, broken_by}
 use Rattle.gl_ledger.specs.declared.response.Response.{Response}
 use Rattle.gl_ledger.specs.declared.response.Response.TheVariants.{Replied}
@@ -38,6 +39,7 @@ use Rattle.gl_ledger.specs.LedgerBook.{ServiceBook, marked_node, by_rule, ledger
 use Rattle.gl_ledger.proofs.Applications.{execute_ok}
 use Rattle.gl_ledger.proofs.Growth.{IsNoGovernance}
 use Rattle.gl_ledger.proofs.Passing.{passing}
+use Rattle.gl_ledger.proofs.Bases.{weaker_from}
 use Rattle.gl_ledger.proofs.RequestEncodings.{request_in-read}
 use Rattle.gl_ledger.proofs.Gathering.{requests-more}
 use Rattle.gl_ledger.proofs.Governed.{no_rule_broken, followed}
@@ -112,7 +114,7 @@ module _ (layers : Layers) (keys : NodeKeys) where
   signing_some (f ∷ fs) r made h = h
 
   -- where the book refuses no entry it breaks no rule
-  pub unbroken : (ledger : List Entry) (e : Entry) → book.breaks ledger e ≡ None → broken layers ledger e ≡ None
+  pub unbroken : (ledger : List Entry) (e : Entry) → book.breaks 0 ledger e ≡ None → broken layers ledger e ≡ None
   unbroken ledger e h = no_rule_broken (broken layers ledger e) h
 
   -- an entry that breaks no rule is one that the ledger takes
@@ -193,14 +195,14 @@ module _ (layers : Layers) (keys : NodeKeys) where
   no_evidence : (ledger : List Entry) (e : Entry) → broken layers ledger e ≡ None → is_evidence e.content ≡ true → ⊥
   no_evidence ledger e h d = let p = passing layers ledger e h in go e.content refl d p.recording p.reads p.rest
     where
-      go : (c : Content) → e.content ≡ c → is_evidence c ≡ true → (t : Recording) → recording_of e.content ≡ Some t → broken_by layers t ledger e ≡ None → ⊥
+      go : (c : Content) → e.content ≡ c → is_evidence c ≡ true → (t : Recording) → recording_of e.content ≡ Some t → broken_by layers t (past_of ledger) e ≡ None → ⊥
       go (content.Governance b) is w t r s = absurd (cc)
       go (content.Application b) is w t r s = absurd (cc)
       go (content.Signature b) is w t r s = absurd (cc)
       go (content.Evidence b) is w t r s =
           let k : Some (recordings.Evidence b) ≡ Some t = sym (ap recording_of is) ∙ r in
           let same : recordings.Evidence b ≡ t = cc in
-          let none : broken_by layers (recordings.Evidence b) ledger e ≡ None = ap (λ (u : Recording). broken_by layers u ledger e) same ∙ s in
+          let none : broken_by layers (recordings.Evidence b) (past_of ledger) e ≡ None = ap (λ (u : Recording). broken_by layers u (past_of ledger) e) same ∙ s in
           absurd (cc)
 
   -- removals and marks stand where they came
@@ -226,6 +228,7 @@ module _ (layers : Layers) (keys : NodeKeys) where
     signed = λ x leaf log view commit e z v c h. signed_lawful x leaf log view commit e z h;
     evident = λ log view e z v h. absurd (cc);
     taken = λ log e z f. sound_push book log e z f;
+    weaker = λ log e base f. ap by_rule (weaker_from layers base log e (unbroken log e f));
     cut = λ log seqno z. sound_cut book log seqno z;
     witnessed = λ log seqno e z a d. absurd (no_evidence (take seqno log) e (unbroken (take seqno log) e (z seqno e a)) d);
     removals = removals;

@@ -8,6 +8,7 @@ pub mod Roots
 pub mod RequestBytes
 pub mod Fitting
 pub mod Passing
+pub mod Bases
 pub mod SameWrites
 pub mod Pushes
 pub mod Gathering

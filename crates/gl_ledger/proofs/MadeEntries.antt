@@ -1,6 +1,6 @@
 -- What the ledger makes breaks no rule: the guard refuses no request, and of signatures only those
 -- of a node that isn't recorded, or with a commit that may not be recorded.
-use Rattle.std.proofs.Common.{◌≡◌, ℕ, ◌+◌, ◌<◌, ◌≤◌, ◌^◌, List, [], ◌∷◌, length, Option, Some, None, Result, Ok, Err, Bool, true, false, not, ◌&&◌, ◌||◌, ◌==◌, nat_le, max, if◌then◌else◌, refl, sym, ◌∙◌, ap, subst, arith}
+use Rattle.std.proofs.Common.{◌≡◌, ℕ, ◌+◌, ◌<◌, ◌≤◌, ◌^◌, List, [], ◌∷◌, length, Option, Some, None, Result, Ok, Err, Bool, true, false, not, ◌&&◌, ◌||◌, ◌==◌, nat_le, max, if◌then◌else◌, refl, sym, ◌∙◌, ap, subst, arith, option_map}
 use Rattle.std.specs.List.{list_all}
 use Rattle.std.proofs.lemmas.Bool.{and_from}
 use Rattle.std.proofs.lemmas.Bool.Decides.{nat_tests}
@@ -42,9 +42,10 @@ use Rattle.gl_ledger.specs.NodeKeys.{NodeKeys}
 use Rattle.gl_ledger.specs.declared.recording.Recording.{Recording}
 use Rattle.gl_ledger.specs.declared.recording.Recording.TheVariants as recordings
 use Rattle.gl_ledger.specs.Recordings.{governance_recording, application_recording, is_founding, is_recovering, is_signing, last_entry, begins, requests_of, recorded_nodes, removal, mark}
+use Rattle.gl_ledger.specs.Past.{commit_after, commit_from, is_unopened, last_commit, last_of, last_signed, past_of, signs_at}
 use Rattle.gl_ledger.specs.Broken.{required}
 use Rattle.gl_ledger.specs.declared.breach.Broken.{Broken}
-use Rattle.gl_ledger.specs.Broken.{breach, is_next_view, is_unopened, is_in_order, broken_of_run, broken_in_state, unless_refused, with_writes, signs_at, last_signed, commit_after, commit_from, last_commit, is_above_removal, is_later_commit, may_record, broken_by_fault, are_same_writes, fault_of_signature, broken}
+use Rattle.gl_ledger.specs.Broken.{breach, is_next_view, is_in_order, broken_of_run, broken_in_state, unless_refused, with_writes, is_above_removal, is_later_commit, may_record, broken_by_fault, are_same_writes, fault_of_signature, broken}
 use Rattle.gl_gov_rules.specs.Rows.{effect_writes}
 use Rattle.gl_ledger.specs.declared.response.Response.{Response}
 use Rattle.gl_ledger.specs.declared.response.Response.TheVariants.{Replied}
@@ -68,14 +69,14 @@ abbrev pub signature_with : NodeId → List ℕ → List Entry → ℕ → signa
 signature_with x bytes ledger commit = record { node = x; commit = commit; root = root_of (leaves_of ledger); signature = bytes }
 
 module _ (layers : Layers) (keys : NodeKeys) (ledger : List Entry) (view : ℕ) (m : MayMake ledger view) where
-  in_view : (t : Recording) → is_recovering t ≡ false → is_next_view (last_entry ledger) t view ≡ true
+  in_view : (t : Recording) → is_recovering t ≡ false → is_next_view (past_of ledger).last t view ≡ true
   in_view t again =
-      ap (λ (o : Option Entry). is_next_view o t view) m.is_last ∙ ap (λ (b : Bool). if b then view == m.last.view + 1 else nat_le m.last.view view) again
+      ap (λ (o : Option Entry). is_next_view (option_map last_of o) t view) m.is_last ∙ ap (λ (b : Bool). if b then view == m.last.view + 1 else nat_le m.last.view view) again
       ∙ (let h = m.up in grind (arith, nat_tests))
 
-  in_order : (t : Recording) → is_founding t ≡ false → is_recovering t ≡ false → is_in_order (last_entry ledger) t view ≡ true
+  in_order : (t : Recording) → is_founding t ≡ false → is_recovering t ≡ false → is_in_order (past_of ledger).last t view ≡ true
   in_order t other again =
-      ap (λ (o : Option Entry). is_in_order o t view) m.is_last
+      ap (λ (o : Option Entry). is_in_order (option_map last_of o) t view) m.is_last
       ∙ and_from (not (is_founding t) && (not (is_recovering t) || is_signature m.last.content)) (not (begins m.last) || (is_signing t && (view == m.last.view)))
       (and_from (not (is_founding t)) (not (is_recovering t) || is_signature m.last.content) (ap not other) (ap (λ (b : Bool). not b || is_signature m.last.content) again))
       (ap (λ (b : Bool). not b || (is_signing t && (view == m.last.view))) m.opened)
@@ -124,10 +125,10 @@ module _ (layers : Layers) (keys : NodeKeys) (ledger : List Entry) (view : ℕ) 
 
   -- what the trial of a node's valid signature comes to, of whatever bytes
   pub signed_broken : (x : NodeId) (bytes : List ℕ) (commit : ℕ) → length ledger < last_seqno → is_entry (signature_entry x bytes ledger view commit) ≡ true →
-      fault_of_signature layers ledger (signature_entry x bytes ledger view commit) (signature_with x bytes ledger commit) ≡ None →
+      fault_of_signature layers (past_of ledger) (signature_entry x bytes ledger view commit) (signature_with x bytes ledger commit) ≡ None →
       broken layers ledger (signature_entry x bytes ledger view commit)
       ≡ required (member x (recorded_nodes ledger)) (breach 9 (length ledger + 1) (signature_entry x bytes ledger view commit))
-      (required (may_record ledger commit) (breach 10 (length ledger + 1) (signature_entry x bytes ledger view commit)) None)
+      (required (may_record (past_of ledger) commit) (breach 10 (length ledger + 1) (signature_entry x bytes ledger view commit)) None)
   unfolding broken
   signed_broken x bytes commit left fits valid =
       let e = signature_entry x bytes ledger view commit in
@@ -136,11 +137,11 @@ module _ (layers : Layers) (keys : NodeKeys) (ledger : List Entry) (view : ℕ) 
       true_first (is_entry e) _ _ fits
       ∙ true_first (seqno == seqno) _ _ (itself seqno)
       ∙ true_first (nat_le seqno last_seqno) _ _ (within (length ledger) left)
-      ∙ true_first (is_next_view (last_entry ledger) (recordings.Signature s) view) _ _ (in_view (recordings.Signature s) refl)
-      ∙ true_first (is_in_order (last_entry ledger) (recordings.Signature s) view) _ _ (in_order (recordings.Signature s) refl refl)
+      ∙ true_first (is_next_view (past_of ledger).last (recordings.Signature s) view) _ _ (in_view (recordings.Signature s) refl)
+      ∙ true_first (is_in_order (past_of ledger).last (recordings.Signature s) view) _ _ (in_order (recordings.Signature s) refl refl)
       ∙ ap (λ (rest : Option Broken). required (member x (recorded_nodes ledger)) (breach 9 seqno e) rest)
       (true_first (same_bytes (root_of (leaves_of ledger)) (root_of (leaves_of ledger))) _ _ (same_bytes_self (root_of (leaves_of ledger)))
-      ∙ ap (λ (rest : Option Broken). required (may_record ledger commit) (breach 10 seqno e) rest) (ap (broken_by_fault seqno) valid))
+      ∙ ap (λ (rest : Option Broken). required (may_record (past_of ledger) commit) (breach 10 seqno e) rest) (ap (broken_by_fault seqno) valid))
     where
       true_first : (holds : Bool) (b : Broken) (rest : Option Broken) → holds ≡ true → required holds b rest ≡ rest
       true_first true b rest h = refl
@@ -168,7 +169,7 @@ module _ (layers : Layers) (keys : NodeKeys) where
       go (content.Evidence d) h = omega arith
 
   -- what the rules of consensus let a leader record, the audit lets it record
-  pub may_go_on : (ledger : List Entry) (commit : ℕ) → MayRecord (ledger_book layers keys) ledger commit → is_later_commit ledger commit ≡ true
+  pub may_go_on : (ledger : List Entry) (commit : ℕ) → MayRecord (ledger_book layers keys) ledger commit → is_later_commit (past_of ledger) commit ≡ true
   may_go_on ledger commit h =
       let low : last_commit ledger ≤ commit = let a = last_within 0 ledger in let b = h.least in omega arith in
       and_from (signs_at (entry_at ledger commit) && nat_le (last_commit ledger) commit) _
@@ -198,10 +199,10 @@ module _ (layers : Layers) (keys : NodeKeys) where
   signed_unbroken ledger view m x leaf commit left fits valid named may =
       let e = signed_entry keys x leaf ledger view commit in
       let seqno = length ledger + 1 in
-      let records : may_record ledger commit ≡ true =
-      ap (λ (o : Option Entry). if is_unopened o then commit == seqno else is_later_commit ledger commit) m.is_last
-      ∙ ap (λ (b : Bool). if b then commit == seqno else is_later_commit ledger commit) m.opened ∙ may_go_on ledger commit may in
-      signed_broken layers keys ledger view m x (signature_after keys x leaf ledger view commit) commit left fits valid.valid ∙ passes (member x (recorded_nodes ledger)) (breach 9 seqno e) _ named (passes (may_record ledger commit) (breach 10 seqno e) None records refl)
+      let records : may_record (past_of ledger) commit ≡ true =
+      ap (λ (o : Option Entry). if is_unopened o then commit == seqno else is_later_commit (past_of ledger) commit) m.is_last
+      ∙ ap (λ (b : Bool). if b then commit == seqno else is_later_commit (past_of ledger) commit) m.opened ∙ may_go_on ledger commit may in
+      signed_broken layers keys ledger view m x (signature_after keys x leaf ledger view commit) commit left fits valid.valid ∙ passes (member x (recorded_nodes ledger)) (breach 9 seqno e) _ named (passes (may_record (past_of ledger) commit) (breach 10 seqno e) None records refl)
 
   pub unless_none : {X : Type 0} (o : Option Broken) (x : X) → o ≡ None → unless_broken o x ≡ Ok x
   unless_none None x h = refl

@@ -1,5 +1,5 @@
 -- A ledger that the opening's check takes opens a service lawfully, whatever its genesis.
-use Rattle.std.proofs.Common.{◌≡◌, ℕ, zero, suc, ◌+◌, ◌-◌, ◌≤◌, List, [], ◌∷◌, length, map, take, Option, Some, None, Ok, Bool, true, false, not, ◌&&◌, ◌||◌, ◌==◌, if◌then◌else◌, refl, sym, ◌∙◌, ap, ap₂, subst, arith, slice_get}
+use Rattle.std.proofs.Common.{◌≡◌, ℕ, zero, suc, ◌+◌, ◌-◌, ◌≤◌, List, [], ◌∷◌, length, map, take, Option, Some, None, Ok, Bool, true, false, not, ◌&&◌, ◌||◌, ◌==◌, if◌then◌else◌, refl, sym, ◌∙◌, ap, ap₂, subst, arith, slice_get, option_map}
 use Rattle.std.proofs.lemmas.Bool.{and_parts}
 use Rattle.std.proofs.lemmas.Bool.Decides.{nat_tests}
 use Rattle.gl_base.specs.Bytes.{same_bytes}
@@ -32,7 +32,8 @@ use Rattle.gl_ledger.specs.declared.recording.Recording.{Recording}
 use Rattle.gl_ledger.specs.declared.recording.Recording.TheVariants as recordings
 use Rattle.gl_ledger.specs.Recordings.{last_entry, recording_of, governance_recording, is_founding, is_recovering, records_founding, records_recovery, is_signing, founds, recovers, begins, requests_of, changed_set, recorded_nodes, configuration}
 use Rattle.gl_ledger.specs.declared.breach.Broken.{Broken}
-use Rattle.gl_ledger.specs.Broken.{unless_refused, is_in_order, is_unopened, broken_by, is_later_commit, may_record}
+use Rattle.gl_ledger.specs.Past.{is_unopened, last_of, past_of}
+use Rattle.gl_ledger.specs.Broken.{unless_refused, is_in_order, broken_by, is_later_commit, may_record}
 use Rattle.gl_ledger.specs.Makers.{signed_entry, opening_of}
 use Rattle.gl_ledger.specs.LedgerBook.{ledger_book, by_rule}
 use Rattle.gl_ledger.specs.Audit.{LedgerFault, audited, signer_in, signer_of, opened_where, opened_unless, opened}
@@ -55,7 +56,7 @@ module _ (layers : Layers) (keys : NodeKeys) where
       let t : is_founding p.recording ≡ true = sym (ap records_founding p.reads) ∙ founded in
       one es last (no_last (take (length es - 1) es) (none p.recording f.view (last_entry (take (length es - 1) es)) t p.order))
     where
-      none : (t : Recording) (view : ℕ) (o : Option Entry) → is_founding t ≡ true → is_in_order o t view ≡ true → o ≡ None
+      none : (t : Recording) (view : ℕ) (o : Option Entry) → is_founding t ≡ true → is_in_order (option_map last_of o) t view ≡ true → o ≡ None
       none t view None a w = refl
       none t view (Some h) a w = absurd (let k = (and_parts (not (is_founding t)) (not (is_recovering t) || is_signature h.content) (and_parts _ _ w).0).0 in let u = ap not a in cc)
 
@@ -137,11 +138,11 @@ module _ (layers : Layers) (keys : NodeKeys) where
     records_two =
         let s = signature_in e.content signer in
         let is_read : second.recording ≡ recordings.Signature s.0 = let k = sym second.reads ∙ ap recording_of s.1 in cc in
-        let all : broken_by layers (recordings.Signature s.0) (f ∷ []) e ≡ None = ap (λ (t : Recording). broken_by layers t (f ∷ []) e) (sym is_read) ∙ second.rest in
+        let all : broken_by layers (recordings.Signature s.0) (past_of (f ∷ [])) e ≡ None = ap (λ (t : Recording). broken_by layers t (past_of (f ∷ [])) e) (sym is_read) ∙ second.rest in
         let one = passed (member s.0.node (recorded_nodes (f ∷ []))) _ _ all in
         let two = passed (same_bytes s.0.root (root_of (leaves_of (f ∷ [])))) _ _ one.1 in
-        let three = passed (may_record (f ∷ []) s.0.commit) _ _ two.1 in
-        let at : (s.0.commit == length (f ∷ []) + 1) ≡ true = sym (ap (λ (b : Bool). if b || recovers f then s.0.commit == length (f ∷ []) + 1 else is_later_commit (f ∷ []) s.0.commit) founded) ∙ three.0 in
+        let three = passed (may_record (past_of (f ∷ [])) s.0.commit) _ _ two.1 in
+        let at : (s.0.commit == length (f ∷ []) + 1) ≡ true = sym (ap (λ (b : Bool). if b || recovers f then s.0.commit == length (f ∷ []) + 1 else is_later_commit (past_of (f ∷ [])) s.0.commit) founded) ∙ three.0 in
         ap recorded_commit s.1 ∙ grind (arith, nat_tests)
 
     by : FoundedBy f
@@ -154,7 +155,7 @@ module _ (layers : Layers) (keys : NodeKeys) where
     accepted =
         let is_read : first.recording ≡ recordings.Governance (requests.Genesis by.genesis) = let k = sym first.reads ∙ ap recording_of by.content_is ∙ ap governance_recording by.reads in cc in
         sym (refusal_of_genesis by.genesis)
-        ∙ unless_ok (refusal (history []) 1 (requests.Genesis by.genesis)) _ (ap (λ (t : Recording). broken_by layers t [] f) (sym is_read) ∙ first.rest)
+        ∙ unless_ok (refusal (history []) 1 (requests.Genesis by.genesis)) _ (ap (λ (t : Recording). broken_by layers t (past_of []) f) (sym is_read) ∙ first.rest)
 
     -- its nodes, in their order
     configured : configuration (f ∷ []) ≡ Some (map node_id by.genesis.nodes)
@@ -164,7 +165,7 @@ module _ (layers : Layers) (keys : NodeKeys) where
     signed_by =
         let s = signature_in e.content signer in
         let is_read : second.recording ≡ recordings.Signature s.0 = let k = sym second.reads ∙ ap recording_of s.1 in cc in
-        let all : broken_by layers (recordings.Signature s.0) (f ∷ []) e ≡ None = ap (λ (t : Recording). broken_by layers t (f ∷ []) e) (sym is_read) ∙ second.rest in
+        let all : broken_by layers (recordings.Signature s.0) (past_of (f ∷ [])) e ≡ None = ap (λ (t : Recording). broken_by layers t (past_of (f ∷ [])) e) (sym is_read) ∙ second.rest in
         let one = passed (member s.0.node (recorded_nodes (f ∷ []))) _ _ all in
         let node : s.0.node ≡ x = let k = sym (ap signer_in s.1) ∙ signer in cc in
         sym (ap₂ member node (founding_recorded_nodes (f ∷ []) by.genesis recorded)) ∙ one.0

@@ -32,6 +32,7 @@ use Rattle.gl_ledger.specs.Layers.{Layers}
 use Rattle.gl_ledger.specs.NodeKeys.{NodeKeys}
 use Rattle.gl_ledger.specs.declared.recording.Recording.TheVariants as recordings
 use Rattle.gl_ledger.specs.Recordings.{recording_of, governance_recording, records_founding, founds, recovers, begins, requests_of, recorded_at, changed_set, recorded_nodes, trusted_nodes, configuration}
+use Rattle.gl_ledger.specs.Past.{past_of}
 use Rattle.gl_ledger.specs.Broken.{unless_refused, with_writes, is_later_commit, may_record, fault_of_signature, broken_by_fault, are_same_writes, broken}
 use Rattle.gl_ledger.specs.Makers.{signature_after, signed_entry, opening_of}
 use Rattle.gl_ledger.specs.LedgerBook.{by_rule, ledger_book}
@@ -110,7 +111,7 @@ module _ (layers : Layers) (g : founding.Genesis) (fits : is_genesis g ≡ true)
 
   -- a node that it names opens the service with a valid signature, of whatever bytes
   pub opening_unbroken : (x : NodeId) (bytes : List ℕ) → member x (map node_id g.nodes) ≡ true → is_entry (signature_entry x bytes (genesis_entry g ∷ []) first_view 2) ≡ true →
-      fault_of_signature layers (genesis_entry g ∷ []) (signature_entry x bytes (genesis_entry g ∷ []) first_view 2) (opening_signature x bytes) ≡ None →
+      fault_of_signature layers (past_of (genesis_entry g ∷ [])) (signature_entry x bytes (genesis_entry g ∷ []) first_view 2) (opening_signature x bytes) ≡ None →
       broken layers (genesis_entry g ∷ []) (signature_entry x bytes (genesis_entry g ∷ []) first_view 2) ≡ None
   opening_unbroken x bytes named entry valid =
       let s = opening_signature x bytes in
@@ -124,7 +125,7 @@ module _ (layers : Layers) (g : founding.Genesis) (fits : is_genesis g ≡ true)
         order = or_true (not (begins (genesis_entry g)));
         rest = passes (member x (recorded_nodes (genesis_entry g ∷ []))) _ _ (ap (member x) (genesis_nodes g fits) ∙ named)
             (passes (same_bytes s.root s.root) _ _ (same_bytes_self s.root)
-            (passes (may_record (genesis_entry g ∷ []) 2) _ _ (ap (λ (b : Bool). if b || recovers (genesis_entry g) then (2 == 2) else is_later_commit (genesis_entry g ∷ []) 2) (founds_service g fits)) (ap (broken_by_fault 2) valid)));
+            (passes (may_record (past_of (genesis_entry g ∷ [])) 2) _ _ (ap (λ (b : Bool). if b || recovers (genesis_entry g) then (2 == 2) else is_later_commit (past_of (genesis_entry g ∷ [])) 2) (founds_service g fits)) (ap (broken_by_fault 2) valid)));
       })
 
 -- ---- a genesis that founds a service
@@ -166,7 +167,7 @@ module _ (layers : Layers) (keys : NodeKeys) (g : founding.Genesis) (x : NodeId)
 
   -- each entry of it may follow those before it
   pub follow : EachFollows (ledger_book layers keys) (opening_of keys g x)
-  follow = by_case (λ i e. (ledger_book layers keys).breaks (take i (opening_of keys g x)) e ≡ None) (ap by_rule genesis_breaks_nothing) (ap by_rule signature_breaks_nothing)
+  follow = by_case (λ i e. (ledger_book layers keys).breaks 0 (take i (opening_of keys g x)) e ≡ None) (ap by_rule genesis_breaks_nothing) (ap by_rule signature_breaks_nothing)
 
   -- so it opens a service as the rules of consensus ask
   pub is_opening : (starting : List NodeId) → member x starting ≡ true →

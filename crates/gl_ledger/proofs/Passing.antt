@@ -6,6 +6,7 @@ use Rattle.gl_entry.specs.declared.entry.Entry.{Entry}
 use Rattle.gl_ledger.specs.Layers.{Layers}
 use Rattle.gl_ledger.specs.declared.recording.Recording.{Recording}
 use Rattle.gl_ledger.specs.Recordings.{last_entry, recording_of}
+use Rattle.gl_ledger.specs.Past.{past_of}
 use Rattle.gl_ledger.specs.Broken.{required}
 use Rattle.gl_ledger.specs.Broken.{breach, is_next_view, is_in_order, broken_by, broken_where, broken}
 
@@ -23,23 +24,23 @@ pub record Passes (layers : Layers) (ledger : List Entry) (e : Entry) : Type 0 w
   pub fits : is_entry e ≡ true
   pub seqno : (e.seqno == length ledger + 1) ≡ true
   pub named : nat_le (length ledger + 1) last_seqno ≡ true
-  pub view : is_next_view (last_entry ledger) recording e.view ≡ true
-  pub order : is_in_order (last_entry ledger) recording e.view ≡ true
-  pub rest : broken_by layers recording ledger e ≡ None
+  pub view : is_next_view (past_of ledger).last recording e.view ≡ true
+  pub order : is_in_order (past_of ledger).last recording e.view ≡ true
+  pub rest : broken_by layers recording (past_of ledger) e ≡ None
 
 pub passing : (layers : Layers) (ledger : List Entry) (e : Entry) → broken layers ledger e ≡ None → Passes layers ledger e
 unfolding broken
 passing layers ledger e h = go (recording_of e.content) refl h
   where
-    go : (o : Option Recording) → recording_of e.content ≡ o → broken_where layers o ledger e ≡ None → Passes layers ledger e
+    go : (o : Option Recording) → recording_of e.content ≡ o → broken_where layers o (past_of ledger) e ≡ None → Passes layers ledger e
     go None is r = absurd (cc)
     go (Some t) is r =
         let seqno = length ledger + 1 in
         let a = passed (is_entry e) (breach 1 seqno e) _ r in
         let b = passed (e.seqno == seqno) (breach 2 seqno e) _ a.1 in
         let n = passed (nat_le seqno last_seqno) (breach 2 seqno e) _ b.1 in
-        let c = passed (is_next_view (last_entry ledger) t e.view) (breach 3 seqno e) _ n.1 in
-        let d = passed (is_in_order (last_entry ledger) t e.view) (breach 4 seqno e) (broken_by layers t ledger e) c.1 in
+        let c = passed (is_next_view (past_of ledger).last t e.view) (breach 3 seqno e) _ n.1 in
+        let d = passed (is_in_order (past_of ledger).last t e.view) (breach 4 seqno e) (broken_by layers t (past_of ledger) e) c.1 in
         record { recording = t; reads = is; fits = a.0; seqno = b.0; named = n.0; view = c.0; order = d.0; rest = d.1 }
 
 -- and the other way round
@@ -47,6 +48,6 @@ pub passing_all : (layers : Layers) (ledger : List Entry) (e : Entry) → Passes
 unfolding broken
 passing_all layers ledger e p =
     let seqno = length ledger + 1 in
-    ap (λ (o : Option Recording). broken_where layers o ledger e) p.reads
+    ap (λ (o : Option Recording). broken_where layers o (past_of ledger) e) p.reads
     ∙ passes (is_entry e) (breach 1 seqno e) _ p.fits (passes (e.seqno == seqno) (breach 2 seqno e) _ p.seqno (passes (nat_le seqno last_seqno) (breach 2 seqno e) _ p.named
-    (passes (is_next_view (last_entry ledger) p.recording e.view) (breach 3 seqno e) _ p.view (passes (is_in_order (last_entry ledger) p.recording e.view) (breach 4 seqno e) _ p.order p.rest))))
+    (passes (is_next_view (past_of ledger).last p.recording e.view) (breach 3 seqno e) _ p.view (passes (is_in_order (past_of ledger).last p.recording e.view) (breach 4 seqno e) _ p.order p.rest))))

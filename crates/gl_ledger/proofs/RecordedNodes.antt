@@ -16,7 +16,7 @@ use Rattle.gl_gov_rules.specs.declared.change.Recorded.{Recorded}
 use Rattle.gl_gov_rules.specs.declared.change.RecordedNode.{RecordedNode}
 use Rattle.gl_gov_rules.specs.Changes.{history}
 use Rattle.gl_gov_rules.specs.Nodes.{recorded_node, nodes_recorded, nodes}
-use Rattle.gl_gov_rules.proofs.HistoryLists as lists
+use Rattle.gl_gov_rules.proofs.NothingCarried.{nodes_of_requests}
 use Rattle.gl_gov_rules.proofs.Statuses.{trusted_recorded}
 use Rattle.gl_ledger.specs.Recordings.{recorded_in, requests_from, requests_of, recorded_nodes, trusted_nodes}
 use Rattle.gl_gov_rules.proofs.Digests.{sha256_digest}
@@ -33,8 +33,8 @@ ids_of rs = ids (flat_map (λ (r : Recorded). nodes_recorded r.seqno r.request) 
 
 -- the nodes that a ledger records are those of its requests
 pub recorded_are : (es : List Entry) → recorded_nodes es ≡ ids_of (requests_of es)
-unfolding recorded_nodes nodes
-recorded_are es = ap ids_of (lists.requests_of (requests_of es))
+unfolding recorded_nodes
+recorded_are es = ap ids (nodes_of_requests (requests_of es))
 
 -- those of two lists, one after the other
 ids_both : (xs ys : List RecordedNode) → ids (xs ++ ys) ≡ ids xs ++ ids ys

@@ -15,7 +15,8 @@ use Rattle.gl_ledger.specs.Tree.{tables_of}
 use Rattle.gl_ledger.specs.Layers.{Layers}
 use Rattle.gl_ledger.specs.NodeKeys.{NodeKeys}
 use Rattle.gl_ledger.specs.Recordings.{last_entry, trusted_nodes}
-use Rattle.gl_ledger.specs.Broken.{is_unopened, broken}
+use Rattle.gl_ledger.specs.Past.{is_unopened}
+use Rattle.gl_ledger.specs.Broken.{broken}
 use Rattle.gl_ledger.specs.Makers.{signature_after, signed_entry}
 use Rattle.gl_ledger.specs.Audit.{LedgerFault, audited, signer_of, opened_where, opened_unless, opened}
 use Rattle.gl_ledger.specs.Sound.{IsSound}

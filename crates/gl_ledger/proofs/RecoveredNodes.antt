@@ -26,6 +26,7 @@ use Rattle.gl_gov_rules.proofs.HistoryLists.{requests_of, changes_below, nodes_m
 use Rattle.gl_gov_rules.proofs.Removals.{removal_read, takes_out, node_kept, recorded_seqno, not_before, marks_same}
 use Rattle.gl_gov_rules.proofs.NewNodes.{recorded_new}
 use Rattle.gl_gov_rules.proofs.Statuses.{marked, is_trusted_in}
+use Rattle.gl_gov_rules.proofs.NothingCarried.{nothing_carried, nodes_of_requests}
 use Rattle.gl_gov_rules.proofs.TrustedBy.{marked_in, trust_in, trusted_read, trusted_from}
 
 -- ---- filters
@@ -106,8 +107,7 @@ module _ (rs : List Recorded) (s : ℕ) (q : Recovery) (all : IsGoverned rs) (fo
   changes_after = changes_more rs recovering ∙ ap (λ (cs : List Change). before.changes ++ map (changed_at s) cs) brought
 
   earlier : (i : ℕ) (n : RecordedNode) → slice_get (nodes before) i ≡ Some n → n.seqno < s
-  unfolding nodes
-  earlier i n at = nodes_below s rs follows.above i n (ap (λ (xs : List Recorded). slice_get (nodes_of xs) i) (sym (requests_of rs)) ∙ at)
+  earlier i n at = nodes_below s rs follows.above i n (ap (λ (ns : List RecordedNode). slice_get ns i) (sym (nodes_of_requests rs)) ∙ at)
 
   -- takes each node out of service that was recorded before
   retired : (i : ℕ) (n : RecordedNode) → slice_get (nodes before) i ≡ Some n → is_trusted_in after n ≡ false
@@ -117,7 +117,7 @@ module _ (rs : List Recorded) (s : ℕ) (q : Recovery) (all : IsGoverned rs) (fo
       let out : list_any (takes_out n) after.changes ≡ true =
       ap (list_any (takes_out n)) changes_after ∙ list_any-append (takes_out n) before.changes (recovered ∷ [])
       ∙ or_right (list_any (takes_out n) before.changes) (takes_out n recovered || false) (or_left (takes_out n recovered) false (and_from (nat_lt n.seqno s) true suffix refl)) in
-      both_ways (list_any (takes_out n) after.changes) (trusted_read after n stays).serves out)
+      both_ways (list_any (takes_out n) after.changes) (trusted_read after n (nothing_carried (rs ++ recovering ∷ [])) stays).serves out)
 
   -- the nodes that it names
   abbrev named : List RecordedNode
@@ -149,7 +149,7 @@ module _ (rs : List Recorded) (s : ℕ) (q : Recovery) (all : IsGoverned rs) (fo
   serving : (i : ℕ) (n : RecordedNode) → slice_get named i ≡ Some n → is_trusted_in after n ≡ true
   serving i n at =
       let founding : n.is_founding ≡ true = let r = map_at (recorded_node s true) q.nodes i n at in ap (λ (m : RecordedNode). m.is_founding) (sym r.2) in
-      trusted_from after n (record {
+      trusted_from after n (nothing_carried (rs ++ recovering ∷ [])) (record {
         unmarked =
             ap (λ (xs : List Recorded). marked_in xs n.id) (requests_of (rs ++ recovering ∷ [])) ∙ list_any-append (λ (x : Recorded). marks n.id x.request) rs (recovering ∷ [])
             ∙ or_from (marked_in rs n.id) (false || false) (unmarked i n at) refl;

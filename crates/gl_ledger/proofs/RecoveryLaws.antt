@@ -1,6 +1,6 @@
 -- After the last signature of a ledger the entry of an accepted recovery breaks no rule, nor does
 -- the signature after it that opens the service again.
-use Rattle.std.proofs.Common.{◌≡◌, ℕ, ◌+◌, ◌<◌, ◌≤◌, ◌^◌, List, [], ◌∷◌, ◌++◌, length, map, Option, Some, None, Ok, Err, Bool, true, false, not, ◌||◌, ◌==◌, nat_lt, nat_le, slice_get, if◌then◌else◌, refl, ◌∙◌, ap, subst, arith, length-append}
+use Rattle.std.proofs.Common.{◌≡◌, ℕ, ◌+◌, ◌<◌, ◌≤◌, ◌^◌, List, [], ◌∷◌, ◌++◌, length, map, Option, Some, None, Ok, Err, Bool, true, false, not, ◌||◌, ◌==◌, nat_lt, nat_le, slice_get, if◌then◌else◌, refl, ◌∙◌, ap, subst, arith, length-append, option_map}
 use Rattle.std.proofs.lemmas.Bool.{and_from}
 use Rattle.std.proofs.lemmas.Bool.Decides.{nat_tests}
 use Rattle.gl_base.specs.Bytes.{same_bytes}
@@ -38,7 +38,8 @@ use Rattle.gl_ledger.specs.Layers.{Layers}
 use Rattle.gl_ledger.specs.declared.recording.Recording.{Recording}
 use Rattle.gl_ledger.specs.declared.recording.Recording.TheVariants as recordings
 use Rattle.gl_ledger.specs.Recordings.{governance_recording, records_founding, records_recovery, last_entry, recording_of, begins, requests_of, recorded_nodes, trusted_nodes}
-use Rattle.gl_ledger.specs.Broken.{is_next_view, is_in_order, unless_refused, with_writes, are_same_writes, signs_at, is_unopened, is_later_commit, may_record, broken_by_fault, fault_of_signature, broken}
+use Rattle.gl_ledger.specs.Past.{is_unopened, last_of, past_of, signs_at}
+use Rattle.gl_ledger.specs.Broken.{is_next_view, is_in_order, unless_refused, with_writes, are_same_writes, is_later_commit, may_record, broken_by_fault, fault_of_signature, broken}
 use Rattle.gl_ledger.specs.Makers.{MayMake}
 use Rattle.gl_ledger.specs.Sound.{IsSound}
 use Rattle.gl_ledger.specs.Recovery.{view_of_last, recovery_view, recovery_entry, with_recovery, where_accepted, recovery_result}
@@ -127,12 +128,12 @@ module _ (layers : Layers) (ledger : List Entry) (r : Recovery) (sound : IsSound
   reads : recording_of (recovery_entry r ledger).content ≡ Some recovering
   reads = ap governance_recording (request_in-read (requests.Recover r) fits)
 
-  in_view : is_next_view (last_entry ledger) recovering (recovery_view ledger) ≡ true
-  in_view = ap (λ (o : Option Entry). is_next_view o recovering (recovery_view ledger)) last.1 ∙ (let n = next in grind (arith, nat_tests, n))
+  in_view : is_next_view (past_of ledger).last recovering (recovery_view ledger) ≡ true
+  in_view = ap (λ (o : Option Entry). is_next_view (option_map last_of o) recovering (recovery_view ledger)) last.1 ∙ (let n = next in grind (arith, nat_tests, n))
 
-  in_order : is_in_order (last_entry ledger) recovering (recovery_view ledger) ≡ true
+  in_order : is_in_order (past_of ledger).last recovering (recovery_view ledger) ≡ true
   in_order =
-      ap (λ (o : Option Entry). is_in_order o recovering (recovery_view ledger)) last.1
+      ap (λ (o : Option Entry). is_in_order (option_map last_of o) recovering (recovery_view ledger)) last.1
       ∙ and_from (is_signature last.0.content) (not (begins last.0) || false) last.2 (ap (λ (b : Bool). not b || false) opened)
 
   -- its entry breaks no rule
@@ -187,7 +188,7 @@ module _ (layers : Layers) (ledger : List Entry) (r : Recovery) (sound : IsSound
   -- a node that it names opens the service again with a valid signature, of whatever bytes
   pub reopening_unbroken : (x : NodeId) (bytes : List ℕ) → member x (map node_id r.nodes) ≡ true →
       is_entry (signature_entry x bytes (with_recovery r ledger) (recovery_view ledger) (length ledger + 2)) ≡ true →
-      fault_of_signature layers (with_recovery r ledger) (signature_entry x bytes (with_recovery r ledger) (recovery_view ledger) (length ledger + 2))
+      fault_of_signature layers (past_of (with_recovery r ledger)) (signature_entry x bytes (with_recovery r ledger) (recovery_view ledger) (length ledger + 2))
       (record { node = x; commit = length ledger + 2; root = root_of (leaves_of (with_recovery r ledger)); signature = bytes }) ≡ None →
       broken layers (with_recovery r ledger) (signature_entry x bytes (with_recovery r ledger) (recovery_view ledger) (length ledger + 2)) ≡ None
   reopening_unbroken x bytes named entry valid =
@@ -205,11 +206,11 @@ module _ (layers : Layers) (ledger : List Entry) (r : Recovery) (sound : IsSound
         fits = entry;
         seqno = itself (length (with_recovery r ledger) + 1);
         named = (let t : nat_le (length (with_recovery r ledger) + 1) last_seqno ≡ true = grind (arith, nat_tests, left, long) in t);
-        view = ap (λ (o : Option Entry). is_next_view o (recordings.Signature s) view) at ∙ same;
-        order = ap (λ (o : Option Entry). is_in_order o (recordings.Signature s) view) at ∙ ap (λ (t : Bool). not (begins before) || t) (itself view) ∙ or_true (not (begins before));
+        view = ap (λ (o : Option Entry). is_next_view (option_map last_of o) (recordings.Signature s) view) at ∙ same;
+        order = ap (λ (o : Option Entry). is_in_order (option_map last_of o) (recordings.Signature s) view) at ∙ ap (λ (t : Bool). not (begins before) || t) (itself view) ∙ or_true (not (begins before));
         rest = passes (member x (recorded_nodes (with_recovery r ledger))) _ _ (trusted_is_recorded x (with_recovery r ledger) (ap (member x) recovery_trusted ∙ named))
             (passes (same_bytes s.root s.root) _ _ (same_bytes_self s.root)
-            (passes (may_record (with_recovery r ledger) commit) _ _
-            (ap (λ (b : Bool). if b then commit == length (with_recovery r ledger) + 1 else is_later_commit (with_recovery r ledger) commit) recovery_begins ∙ own)
+            (passes (may_record (past_of (with_recovery r ledger)) commit) _ _
+            (ap (λ (b : Bool). if b then commit == length (with_recovery r ledger) + 1 else is_later_commit (past_of (with_recovery r ledger)) commit) recovery_begins ∙ own)
             (ap (broken_by_fault (length (with_recovery r ledger) + 1)) valid)));
       })

@@ -7,8 +7,8 @@ use Rattle.gl_entry.specs.declared.entry.Content.{Content}
 use Rattle.gl_entry.specs.declared.entry.Content.TheVariants as content
 use Rattle.gl_entry.specs.declared.entry.Entry.{Entry}
 use Rattle.gl_entry.specs.declared.entry.Signature as signatures
-use Rattle.gl_ledger.specs.Broken.{last_signed, commit_after, commit_from, last_commit}
 use Rattle.gl_ledger.specs.Signed.{IsSignedAt, IsSignedUpTo}
+use Rattle.gl_ledger.specs.Past.{commit_after, commit_from, last_commit, last_signed}
 use Rattle.gl_base.proofs.Lists.{slice_get-within, slice_get-append}
 
 -- an entry that is no signature leaves the last one

@@ -1,5 +1,5 @@
 -- An entry that breaks no rule keeps a ledger sound.
-use Rattle.std.proofs.Common.{◌≡◌, ⊎_elim, ℕ, suc, ◌+◌, ◌-◌, ◌≤◌, nat_le, List, [], ◌∷◌, ◌++◌, length, Option, Some, None, Result, Ok, Err, Bool, true, false, not, ◌&&◌, ◌||◌, ◌==◌, refl, sym, ◌∙◌, ap, subst, arith, slice_get, if◌then◌else◌}
+use Rattle.std.proofs.Common.{◌≡◌, ⊎_elim, ℕ, suc, ◌+◌, ◌-◌, ◌≤◌, nat_le, List, [], ◌∷◌, ◌++◌, length, Option, Some, None, Result, Ok, Err, Bool, true, false, not, ◌&&◌, ◌||◌, ◌==◌, refl, sym, ◌∙◌, ap, subst, arith, slice_get, if◌then◌else◌, option_map}
 use Rattle.std.specs.List.{AllByRecursion}
 use Rattle.std.specs.FinMap as rows
 use Rattle.std.specs.Cmp.Lexicographic.{bytes_decides}
@@ -47,6 +47,7 @@ use Rattle.gl_ledger.specs.declared.recording.Recording.{Recording}
 use Rattle.gl_ledger.specs.declared.recording.Recording.TheVariants as recordings
 use Rattle.gl_ledger.specs.Recordings.{governance_recording, application_recording, is_founding, is_recovering, records_founding, records_recovery, is_signing, last_entry, recording_of, founds, recovers, begins, requests_of, recorded_nodes}
 use Rattle.gl_ledger.specs.declared.breach.Broken.{Broken}
+use Rattle.gl_ledger.specs.Past.{last_of, past_of}
 use Rattle.gl_ledger.specs.Broken.{is_next_view, is_in_order, are_same_writes, broken_in_state, unless_refused, broken_by_fault, may_record, fault_of_signature, broken_by, broken}
 use Rattle.gl_ledger.specs.Sound.{IsFounded, IsGovernanceEntry, IsApplicationEntry, IsSignatureEntry, StandsAs, HasGovernedTables, IsSound}
 use Rattle.gl_ledger.proofs.TablesLaws.{tables_of-push}
@@ -96,7 +97,7 @@ module _ (layers : Layers) (ledger : List Entry) (e : Entry) (sound : IsSound la
   up : (i : ℕ) (f : Entry) → slice_get ledger i ≡ Some f → f.view ≤ e.view
   up i f s = go (last_entry ledger) refl p.view
     where
-      go : (o : Option Entry) → last_entry ledger ≡ o → is_next_view o p.recording e.view ≡ true → f.view ≤ e.view
+      go : (o : Option Entry) → last_entry ledger ≡ o → is_next_view (option_map last_of o) p.recording e.view ≡ true → f.view ≤ e.view
       go None is w = absurd (let q : slice_get ledger i ≡ None = ap (λ (l : List Entry). slice_get l i) (no_last ledger is) in cc)
       go (Some last) is w =
           let here = slice_get-within ledger i f s in
@@ -107,8 +108,8 @@ module _ (layers : Layers) (ledger : List Entry) (e : Entry) (sound : IsSound la
   read_as : (r : Recording) → recording_of e.content ≡ Some r → p.recording ≡ r
   read_as r reads = let k = sym p.reads ∙ reads in cc
 
-  rest_of : (r : Recording) → recording_of e.content ≡ Some r → broken_by layers r ledger e ≡ None
-  rest_of r reads = ap (λ (t : Recording). broken_by layers t ledger e) (sym (read_as r reads)) ∙ p.rest
+  rest_of : (r : Recording) → recording_of e.content ≡ Some r → broken_by layers r (past_of ledger) e ≡ None
+  rest_of r reads = ap (λ (t : Recording). broken_by layers t (past_of ledger) e) (sym (read_as r reads)) ∙ p.rest
 
   -- what each kind of entry comes to
   record Stands : Type 0 where
@@ -158,7 +159,7 @@ module _ (layers : Layers) (ledger : List Entry) (e : Entry) (sound : IsSound la
       let h = rest_of (recordings.Signature s) (ap recording_of is) in
       let one = passed (member s.node (recorded_nodes ledger)) _ _ h in
       let two = passed (same_bytes s.root (root_of (leaves_of ledger))) _ _ one.1 in
-      let three = passed (may_record ledger s.commit) _ _ two.1 in
+      let three = passed (may_record (past_of ledger) s.commit) _ _ two.1 in
       let writes : e.writes ≡ [] = none_written e.writes (sym (ap (λ (x : Bool). x || are_no_writes e.writes) (ap may_write is)) ∙ fits.writes) in
       let stands : IsSignatureEntry layers ledger e s = record {
         writes = writes;
@@ -166,7 +167,7 @@ module _ (layers : Layers) (ledger : List Entry) (e : Entry) (sound : IsSound la
         node = one.0;
         root = same_bytes_is s.root (root_of (leaves_of ledger)) two.0;
         commit = three.0;
-        valid = valid (fault_of_signature layers ledger e s) three.1;
+        valid = valid (fault_of_signature layers (past_of ledger) e s) three.1;
       } in
       quietly (subst IsNoGovernance (sym is) tt) (subst (λ (ws : List Write). AllByRecursion IsOutside ws) (sym writes) tt)
       (subst (λ (c : Content). StandsAs layers c ledger e) (sym is) stands)
@@ -232,7 +233,7 @@ module _ (layers : Layers) (ledger : List Entry) (e : Entry) (sound : IsSound la
 
   first_of : 0 ≡ length ledger → (founds e ≡ true) × (e.view ≡ first_view)
   first_of none =
-      let both = and_parts (is_founding p.recording) (e.view == first_view) (ap (λ (l : List Entry). is_next_view (last_entry l) p.recording e.view) (sym (empty ledger none)) ∙ p.view) in
+      let both = and_parts (is_founding p.recording) (e.view == first_view) (ap (λ (l : List Entry). is_next_view (past_of l).last p.recording e.view) (sym (empty ledger none)) ∙ p.view) in
       (founding_as ∙ both.0, let h = both.1 in grind (arith, nat_tests))
     where
       empty : (l : List Entry) → 0 ≡ length l → l ≡ []
@@ -242,7 +243,7 @@ module _ (layers : Layers) (ledger : List Entry) (e : Entry) (sound : IsSound la
   once_of : founds e ≡ true → length ledger ≡ 0
   once_of h = go (last_entry ledger) refl p.order
     where
-      go : (o : Option Entry) → last_entry ledger ≡ o → is_in_order o p.recording e.view ≡ true → length ledger ≡ 0
+      go : (o : Option Entry) → last_entry ledger ≡ o → is_in_order (option_map last_of o) p.recording e.view ≡ true → length ledger ≡ 0
       go None is w = ap length (no_last ledger is)
       go (Some last) is w = absurd (let k = (and_parts (not (is_founding p.recording)) (not (is_recovering p.recording) || is_signature last.content) (and_parts _ _ w).0).0 in let t = sym founding_as ∙ h in let u = ap not t in cc)
 
@@ -250,10 +251,10 @@ module _ (layers : Layers) (ledger : List Entry) (e : Entry) (sound : IsSound la
   recovering_as = ap records_recovery p.reads
 
   -- what the order asks of the entry after the last one
-  ordered : (i : ℕ) (d : Entry) → slice_get ledger i ≡ Some d → suc i ≡ length ledger → is_in_order (Some d) p.recording e.view ≡ true
+  ordered : (i : ℕ) (d : Entry) → slice_get ledger i ≡ Some d → suc i ≡ length ledger → is_in_order (option_map last_of (Some d)) p.recording e.view ≡ true
   ordered i d at last =
       let here : length ledger - 1 ≡ i = omega (arith, last) in
-      ap (λ (o : Option Entry). is_in_order o p.recording e.view) (sym (ap (slice_get ledger) here ∙ at)) ∙ p.order
+      ap (λ (o : Option Entry). is_in_order (option_map last_of o) p.recording e.view) (sym (ap (slice_get ledger) here ∙ at)) ∙ p.order
 
   -- a recovery stands right after a signature, in the view after its
   recovered_of : (i : ℕ) (d : Entry) → slice_get ledger i ≡ Some d → suc i ≡ length ledger → recovers e ≡ true → (is_signature d.content ≡ true) × (e.view ≡ d.view + 1)
@@ -261,7 +262,7 @@ module _ (layers : Layers) (ledger : List Entry) (e : Entry) (sound : IsSound la
       let here : length ledger - 1 ≡ i = omega (arith, last) in
       let is : is_recovering p.recording ≡ true = sym recovering_as ∙ again in
       let order = (and_parts (not (is_founding p.recording)) (not (is_recovering p.recording) || is_signature d.content) (and_parts _ _ (ordered i d at last)).0).1 in
-      let view : is_next_view (Some d) p.recording e.view ≡ true = ap (λ (o : Option Entry). is_next_view o p.recording e.view) (sym (ap (slice_get ledger) here ∙ at)) ∙ p.view in
+      let view : is_next_view (option_map last_of (Some d)) p.recording e.view ≡ true = ap (λ (o : Option Entry). is_next_view (option_map last_of o) p.recording e.view) (sym (ap (slice_get ledger) here ∙ at)) ∙ p.view in
       let next : (e.view == d.view + 1) ≡ true = sym (ap (λ (b : Bool). if b then e.view == d.view + 1 else nat_le d.view e.view) is) ∙ view in
       (sym (ap (λ (b : Bool). not b || is_signature d.content) is) ∙ order, grind (arith, nat_tests, next))
 

@@ -14,7 +14,8 @@ use Rattle.gl_ledger.specs.Ledger.{HasViewsUpTo, execute_result, signature_entry
 use Rattle.gl_ledger.specs.Layers.{Layers}
 use Rattle.gl_ledger.specs.NodeKeys.{NodeKeys}
 use Rattle.gl_ledger.specs.Recordings.{last_entry, recorded_nodes}
-use Rattle.gl_ledger.specs.Broken.{breach, is_unopened, may_record, fault_of_signature, broken}
+use Rattle.gl_ledger.specs.Past.{is_unopened, past_of}
+use Rattle.gl_ledger.specs.Broken.{breach, may_record, fault_of_signature, broken}
 use Rattle.gl_ledger.specs.Sound.{IsSound}
 use Rattle.gl_ledger.specs.Makers.{MayMake}
 use Rattle.gl_ledger.specs.LedgerBook.{by_rule}
@@ -54,10 +55,10 @@ module _ (layers : Layers) where
 
     -- nor does a node's valid signature, of whatever bytes, with a commit that may be recorded
     pub signature_unbroken : (x : NodeId) (bytes : List ℕ) (commit : ℕ) → length ledger + 1 ≤ last_seqno → is_entry (signature_entry x bytes ledger view commit) ≡ true →
-        fault_of_signature layers ledger (signature_entry x bytes ledger view commit) (signature_with x bytes ledger commit) ≡ None → member x (recorded_nodes ledger) ≡ true → may_record ledger commit ≡ true →
+        fault_of_signature layers (past_of ledger) (signature_entry x bytes ledger view commit) (signature_with x bytes ledger commit) ≡ None → member x (recorded_nodes ledger) ≡ true → may_record (past_of ledger) commit ≡ true →
         broken layers ledger (signature_entry x bytes ledger view commit) ≡ None
     signature_unbroken x bytes commit left fits valid named records =
         let e = signature_entry x bytes ledger view commit in
         let seqno = length ledger + 1 in
         signed_broken layers any_keys ledger view m x bytes commit (omega arith) fits valid
-        ∙ passes (member x (recorded_nodes ledger)) (breach 9 seqno e) _ named (passes (may_record ledger commit) (breach 10 seqno e) None records refl)
+        ∙ passes (member x (recorded_nodes ledger)) (breach 9 seqno e) _ named (passes (may_record (past_of ledger) commit) (breach 10 seqno e) None records refl)

@@ -7,7 +7,8 @@ use Rattle.gl_entry.specs.declared.entry.Entry.{Entry}
 use Rattle.gl_ledger.specs.Layers.{Layers}
 use Rattle.gl_ledger.specs.Recordings.{last_entry}
 use Rattle.gl_ledger.specs.declared.breach.Broken.{Broken}
-use Rattle.gl_ledger.specs.Broken.{is_unopened, broken}
+use Rattle.gl_ledger.specs.Past.{is_unopened}
+use Rattle.gl_ledger.specs.Broken.{broken}
 
 -- The seqno of an entry that breaks a rule, and the rule.
 pub record LedgerFault : Type 0 where

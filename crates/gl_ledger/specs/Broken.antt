@@ -1,16 +1,14 @@
--- The rules of the audit, and the first of them that an entry breaks after a ledger. A ledger is
--- valid where no entry of it breaks one after those before it. A node refuses an entry from another
--- node for the same answer.
-use Rattle.std.specs.Prelude.{ℕ, ◌+◌, List, [], ◌∷◌, ◌++◌, Option, None, Some, Result, Ok, Err, Bool, true, false, not, ◌&&◌, ◌||◌, ◌==◌, nat_le, length, if◌then◌else◌}
+-- The rules of the audit, and the first of them that an entry breaks, by what is read of the entries
+-- before it. A ledger is valid where no entry of it breaks one after those before it. A node
+-- refuses an entry from another node for the same answer.
+use Rattle.std.specs.Prelude.{ℕ, zero, suc, ◌+◌, List, [], ◌∷◌, ◌++◌, Option, None, Some, Result, Ok, Err, Bool, true, false, not, ◌&&◌, ◌||◌, ◌==◌, nat_le, length, if◌then◌else◌}
 use Rattle.std.specs.List.{list_all, flat_map}
 use Rattle.sha2.specs.Sha256.{sha256}
 use Rattle.gl_base.specs.LittleEndian.{little_endian}
 use Rattle.gl_base.specs.Bytes.{same_bytes}
 use Rattle.gl_base.specs.TxId.{last_seqno}
 use Rattle.gl_hss.specs.declared.fault.HssFault.{HssFault}
-use Rattle.gl_merkle.specs.Tree.{root_of}
 use Rattle.gl_rules.specs.Identity.{NodeId, member}
-use Rattle.gl_rules.specs.Log.{entry_at, seqno_with_first}
 use Rattle.gl_rules.specs.World.{first_view}
 use Rattle.gl_vmaps.specs.declared.write.Write.{Write}
 use Rattle.gl_tx.specs.Request.{reply_bytes}
@@ -19,9 +17,8 @@ use Rattle.gl_vmaps.specs.Tables.{same_value}
 use Rattle.gl_tx.specs.declared.request.Operation.{Operation}
 use Rattle.gl_tx.specs.declared.runs.Ran.{Ran}
 use Rattle.gl_tx.specs.declared.abort.Abort.{Abort}
-use Rattle.gl_entry.specs.Entry.{no_digest, is_signature, is_entry, body_bytes, write_bytes}
+use Rattle.gl_entry.specs.Entry.{no_digest, is_entry, body_bytes, write_bytes}
 use Rattle.gl_entry.specs.SignedMessage.{signed_message}
-use Rattle.gl_entry.specs.declared.entry.Content.{Content}
 use Rattle.gl_entry.specs.declared.entry.Content.TheVariants as content
 use Rattle.gl_entry.specs.declared.entry.Entry.{Entry}
 use Rattle.gl_entry.specs.declared.entry.Signature as signatures
@@ -33,13 +30,13 @@ use Rattle.gl_gov_rules.specs.Changes.{history}
 use Rattle.gl_gov_rules.specs.Refusals.{refusal}
 use Rattle.gl_gov_rules.specs.Rows.{effect_writes}
 use Rattle.gl_ledger.specs.ServiceRow.{service_state, identity_in}
-use Rattle.gl_ledger.specs.Tree.{tables_of, leaves_of}
 use Rattle.gl_ledger.specs.declared.breach.Broken.{Broken}
 use Rattle.gl_ledger.specs.declared.breach.EntryRefusal.TheVariants as refusals
 use Rattle.gl_ledger.specs.Layers.{Layers}
+use Rattle.gl_ledger.specs.Past.{Last, Past, is_begun, past_of, past_from}
 use Rattle.gl_ledger.specs.declared.recording.Recording.{Recording}
 use Rattle.gl_ledger.specs.declared.recording.Recording.TheVariants as recordings
-use Rattle.gl_ledger.specs.Recordings.{is_founding, is_recovering, is_signing, last_entry, recording_of, begins, requests_of, recorded_nodes, removal, mark}
+use Rattle.gl_ledger.specs.Recordings.{is_founding, is_recovering, is_signing, recording_of, removal, mark}
 
 -- What is asked first, or else what is wrong with it, and then the rest.
 abbrev pub required : {X : Type 0} → Bool → X → Option X → Option X
@@ -61,18 +58,18 @@ breach rule seqno e = replay rule seqno no_digest (sha256 (body_bytes e))
 
 -- The first entry founds the service, in the first view. After it views never fall, and a recovery
 -- is of the view after the last.
-abbrev pub is_next_view : Option Entry → Recording → ℕ → Bool
+abbrev pub is_next_view : Option Last → Recording → ℕ → Bool
 is_next_view None recording view = is_founding recording && (view == first_view)
 is_next_view (Some last) recording view =
     if is_recovering recording then view == last.view + 1 else nat_le last.view view
 
 -- An entry that founds a service stands first, and a recovery right after a signature. The entry
 -- after either of them is a signature of its view.
-abbrev pub is_in_order : Option Entry → Recording → ℕ → Bool
+abbrev pub is_in_order : Option Last → Recording → ℕ → Bool
 is_in_order None recording view = true
 is_in_order (Some last) recording view =
-    not (is_founding recording) && (not (is_recovering recording) || is_signature last.content)
-    && (not (begins last) || (is_signing recording && (view == last.view)))
+    not (is_founding recording) && (not (is_recovering recording) || last.signs)
+    && (not last.begins || (is_signing recording && (view == last.view)))
 
 -- Rules 5 and 6: an application request
 
@@ -110,10 +107,9 @@ broken_in_state seqno Open ran e = broken_of_run seqno ran e
 broken_in_state seqno state ran e =
     Some (record { rule = 5; refusal = refusals.ServiceState state })
 
-abbrev pub broken_by_application : List Operation → List Entry → Entry → Option Broken
-broken_by_application q ledger e =
-    broken_in_state (length ledger + 1) (service_state (tables_of ledger))
-    (run q (tables_of ledger)) e
+abbrev pub broken_by_application : List Operation → Past → Entry → Option Broken
+broken_by_application q p e =
+    broken_in_state (p.len + 1) (service_state p.tables) (run q p.tables) e
 
 -- Rules 7 and 8: a request of governance
 
@@ -123,38 +119,14 @@ unless_refused (Some why) rest = Some (record { rule = 7; refusal = refusals.Gov
 
 -- A request is accepted, and the entry has the write set of its effect, which turns the rows of the
 -- requests before it into the rows with it.
-abbrev pub broken_by_governance : GovernanceRequest → List Entry → Entry → Option Broken
-broken_by_governance g ledger e =
-    let seqno = length ledger + 1 in
-    let recorded = requests_of ledger in
-    unless_refused (refusal (history recorded) seqno g) (
-    with_writes 8 seqno (effect_writes recorded (record { seqno = seqno; request = g })) e None
+abbrev pub broken_by_governance : GovernanceRequest → Past → Entry → Option Broken
+broken_by_governance g p e =
+    let seqno = p.len + 1 in
+    unless_refused (refusal (history p.requests) seqno g) (
+    with_writes 8 seqno (effect_writes p.requests (record { seqno = seqno; request = g })) e None
     )
 
 -- Rules 9 to 11: a signature
-
-abbrev pub signs_at : Option Entry → Bool
-signs_at None = false
-signs_at (Some e) = is_signature e.content
-
--- The seqno of the last signature of a ledger, 0 where there is none.
-abbrev pub last_signed : List Entry → ℕ
-last_signed [] = 0
-last_signed (e ∷ es) = seqno_with_first (is_signature e.content) (last_signed es)
-
-abbrev pub commit_after : ℕ → Content → ℕ
-commit_after commit (content.Signature s) = s.commit
-commit_after commit (content.Governance bytes) = commit
-commit_after commit (content.Application bytes) = commit
-commit_after commit (content.Evidence d) = commit
-
-abbrev pub commit_from : ℕ → List Entry → ℕ
-commit_from commit [] = commit
-commit_from commit (e ∷ es) = commit_from (commit_after commit e.content) es
-
--- The commit that the last signature of a ledger records, 0 where there is none.
-abbrev pub last_commit : List Entry → ℕ
-last_commit ledger = commit_from 0 ledger
 
 -- Of a node that is marked after a seqno, the removal is not above commit.
 abbrev pub is_above_removal : Option ℕ → Option ℕ → ℕ → ℕ → Bool
@@ -168,65 +140,67 @@ broken_by_fault seqno None = None
 broken_by_fault seqno (Some fault) =
     Some (record { rule = 11; refusal = refusals.BadSignature seqno fault })
 
--- A service begins with the ledger's last entry, so that a signature opens it.
-abbrev pub is_unopened : Option Entry → Bool
-is_unopened None = false
-is_unopened (Some last) = begins last
-
 -- The commit of a signature that doesn't open a service: the seqno of an earlier signature, not
 -- below the commit of the last one, nor below the removal of a node that was marked since.
-abbrev pub is_later_commit : List Entry → ℕ → Bool
-is_later_commit ledger commit =
-    signs_at (entry_at ledger commit) && nat_le (last_commit ledger) commit
+abbrev pub is_later_commit : Past → ℕ → Bool
+is_later_commit p commit =
+    p.signs_at commit && nat_le p.last_commit commit
     && list_all (λ (y : NodeId).
-    is_above_removal (mark ledger y) (removal ledger y) (last_signed ledger) commit)
-    (recorded_nodes ledger)
+    is_above_removal (p.mark y) (p.removal y) p.last_signed commit)
+    p.nodes
 
--- The commit that a signature after a ledger may record: its own seqno, where it opens the service.
-abbrev pub may_record : List Entry → ℕ → Bool
-may_record ledger commit =
-    if is_unopened (last_entry ledger)
-    then commit == length ledger + 1
-    else is_later_commit ledger commit
+-- The commit that a signature may record: its own seqno, where it opens the service.
+abbrev pub may_record : Past → ℕ → Bool
+may_record p commit =
+    if is_begun p.last then commit == p.len + 1 else is_later_commit p commit
 
 module _ (layers : Layers) where
-  -- Why the signature of an entry isn't valid after a ledger, under the identity in force.
-  abbrev pub fault_of_signature : List Entry → Entry → signatures.Signature → Option HssFault
-  fault_of_signature ledger e s =
-      layers.signature_fault (identity_in (tables_of ledger)) s.node
+  -- Why the signature of an entry isn't valid, under the identity in force.
+  abbrev pub fault_of_signature : Past → Entry → signatures.Signature → Option HssFault
+  fault_of_signature p e s =
+      layers.signature_fault (identity_in p.tables) s.node
       (signed_message s.root e.view e.seqno s.commit) s.signature
 
-  abbrev pub broken_by_signature : signatures.Signature → List Entry → Entry → Option Broken
-  broken_by_signature s ledger e =
-      let seqno = length ledger + 1 in
-      let root = root_of (leaves_of ledger) in
-      required (member s.node (recorded_nodes ledger)) (breach 9 seqno e) (
-      required (same_bytes s.root root) (replay 9 seqno root s.root) (
-      required (may_record ledger s.commit) (breach 10 seqno e)
-      (broken_by_fault seqno (fault_of_signature ledger e s))
+  abbrev pub broken_by_signature : signatures.Signature → Past → Entry → Option Broken
+  broken_by_signature s p e =
+      let seqno = p.len + 1 in
+      required (member s.node p.nodes) (breach 9 seqno e) (
+      required (same_bytes s.root p.root) (replay 9 seqno p.root s.root) (
+      required (may_record p s.commit) (breach 10 seqno e)
+      (broken_by_fault seqno (fault_of_signature p e s))
       ))
 
   -- All rules
 
   -- Rules 5 to 12, by what the entry records. For now no evidence entry may follow.
-  abbrev pub broken_by : Recording → List Entry → Entry → Option Broken
-  broken_by (recordings.Application q) ledger e = broken_by_application q ledger e
-  broken_by (recordings.Governance g) ledger e = broken_by_governance g ledger e
-  broken_by (recordings.Signature s) ledger e = broken_by_signature s ledger e
-  broken_by (recordings.Evidence d) ledger e = Some (breach 12 (length ledger + 1) e)
+  abbrev pub broken_by : Recording → Past → Entry → Option Broken
+  broken_by (recordings.Application q) p e = broken_by_application q p e
+  broken_by (recordings.Governance g) p e = broken_by_governance g p e
+  broken_by (recordings.Signature s) p e = broken_by_signature s p e
+  broken_by (recordings.Evidence d) p e = Some (breach 12 (p.len + 1) e)
 
-  abbrev pub broken_where : Option Recording → List Entry → Entry → Option Broken
-  broken_where None ledger e = Some (breach 1 (length ledger + 1) e)
-  broken_where (Some recording) ledger e =
-      let seqno = length ledger + 1 in
+  abbrev pub broken_where : Option Recording → Past → Entry → Option Broken
+  broken_where None p e = Some (breach 1 (p.len + 1) e)
+  broken_where (Some recording) p e =
+      let seqno = p.len + 1 in
       required (is_entry e) (breach 1 seqno e) (
       required (e.seqno == seqno) (breach 2 seqno e) (
       required (nat_le seqno last_seqno) (breach 2 seqno e) (
-      required (is_next_view (last_entry ledger) recording e.view) (breach 3 seqno e) (
-      required (is_in_order (last_entry ledger) recording e.view) (breach 4 seqno e)
-      (broken_by recording ledger e)
+      required (is_next_view p.last recording e.view) (breach 3 seqno e) (
+      required (is_in_order p.last recording e.view) (breach 4 seqno e)
+      (broken_by recording p e)
       ))))
+
+  -- The first rule that an entry breaks, if it breaks one, after entries of which this is read.
+  abbrev pub broken_after : Past → Entry → Option Broken
+  broken_after p e = broken_where (recording_of e.content) p e
 
   -- The first rule that an entry breaks after a ledger, if it breaks one.
   unfoldable pub broken : List Entry → Entry → Option Broken
-  broken ledger e = broken_where (recording_of e.content) ledger e
+  broken ledger e = broken_after (past_of ledger) e
+
+  -- The same, as a node reads a ledger that has its entries up to a base from a snapshot. At base 0
+  -- it has the whole ledger.
+  abbrev pub broken_from : ℕ → List Entry → Entry → Option Broken
+  broken_from zero ledger e = broken ledger e
+  broken_from (suc before) ledger e = broken_after (past_from (suc before) ledger) e

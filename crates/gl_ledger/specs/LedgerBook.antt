@@ -17,7 +17,7 @@ use Rattle.gl_ledger.specs.Recordings.{requests_of, recorded_nodes, configuratio
 use Rattle.gl_ledger.specs.declared.breach.Broken.{Broken}
 use Rattle.gl_ledger.specs.declared.response.Reads.{Reads}
 use Rattle.gl_ledger.specs.declared.refusal.Refusal.TheVariants as refusals
-use Rattle.gl_ledger.specs.Broken.{broken}
+use Rattle.gl_ledger.specs.Broken.{broken_from}
 use Rattle.gl_ledger.specs.declared.response.Response.{Response}
 use Rattle.gl_ledger.specs.declared.response.Rejection.{Rejection}
 use Rattle.gl_ledger.specs.declared.response.Rejection.TheVariants.{ByStore, NoEvidenceYet, ByRule}
@@ -62,6 +62,6 @@ ledger_book layers keys = record {
   marked_node = marked_node;
   mark_refusal = λ ledger x.
       by_refusal (governance.mark_refusal (history (requests_of ledger)) x);
-  conflict = λ ledger len reads. None;
-  breaks = λ ledger e. by_rule (broken layers ledger e);
+  conflict = λ base ledger len reads. None;
+  breaks = λ base ledger e. by_rule (broken_from layers base ledger e);
 }

@@ -32,7 +32,8 @@ use Rattle.gl_ledger.specs.declared.response.Response.{Response}
 use Rattle.gl_ledger.specs.declared.response.Response.TheVariants.{Replied, Governed}
 use Rattle.gl_ledger.specs.declared.response.Rejection.{Rejection}
 use Rattle.gl_ledger.specs.declared.response.Rejection.TheVariants.{ByStore, Unencodable, NoEntry, Founding, ByRule}
-use Rattle.gl_ledger.specs.Broken.{is_unopened, fault_of_signature, broken}
+use Rattle.gl_ledger.specs.Past.{is_unopened, past_of}
+use Rattle.gl_ledger.specs.Broken.{fault_of_signature, broken}
 
 abbrev pub with_reply : Result (Entry × List Answer) Refusal → Result (Entry × Response) Rejection
 with_reply (Ok made) = Ok (made.0, Replied made.1)
@@ -144,6 +145,6 @@ pub record MakesValid (layers : Layers) (keys : NodeKeys) (x : NodeId) (leaf : �
     (ledger : List Entry) (view commit : ℕ) : Type 0 where
   pub bytes : are_bytes (signature_after keys x leaf ledger view commit) ≡ true
   pub short : length (signature_after keys x leaf ledger view commit) ≤ 2 ^ 16
-  pub valid : fault_of_signature layers ledger (signed_entry keys x leaf ledger view commit)
+  pub valid : fault_of_signature layers (past_of ledger) (signed_entry keys x leaf ledger view commit)
       (signature_made keys x leaf ledger view commit)
       ≡ None

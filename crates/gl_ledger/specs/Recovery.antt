@@ -19,9 +19,9 @@ use Rattle.gl_ledger.specs.declared.refusal.Refusal.TheVariants as refusals
 use Rattle.gl_ledger.specs.Layers.{Layers}
 use Rattle.gl_ledger.specs.NodeKeys.{NodeKeys}
 use Rattle.gl_ledger.specs.Recordings.{last_entry, requests_of}
-use Rattle.gl_ledger.specs.Broken.{signs_at}
 use Rattle.gl_ledger.specs.Makers.{signature_after, MakesValid}
 use Rattle.gl_ledger.specs.Audit.{audited}
+use Rattle.gl_ledger.specs.Past.{signs_at}
 
 -- The view of the last entry, 0 where there is none.
 abbrev pub view_of_last : Option Entry → ℕ

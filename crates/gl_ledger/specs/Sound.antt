@@ -28,6 +28,7 @@ use Rattle.gl_ledger.specs.Serial.{IsLedger}
 use Rattle.gl_vmaps.specs.Changes.{Turns}
 use Rattle.gl_ledger.specs.Layers.{Layers}
 use Rattle.gl_ledger.specs.Recordings.{founds, recovers, begins, requests_of, recorded_nodes}
+use Rattle.gl_ledger.specs.Past.{past_of}
 use Rattle.gl_ledger.specs.Broken.{may_record, fault_of_signature}
 
 -- The first entry founds the service, in the first view, and no other does. A recovery, which
@@ -87,8 +88,8 @@ module _ (layers : Layers) where
     pub claims : e.claims ≡ no_digest
     pub node : member s.node (recorded_nodes before) ≡ true
     pub root : s.root ≡ root_of (leaves_of before)
-    pub commit : may_record before s.commit ≡ true
-    pub valid : fault_of_signature layers before e s ≡ None
+    pub commit : may_record (past_of before) s.commit ≡ true
+    pub valid : fault_of_signature layers (past_of before) e s ≡ None
 
   -- The entry is what its content says it is, after the ledger before it. For now there is no
   -- evidence entry.

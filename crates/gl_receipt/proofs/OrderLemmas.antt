@@ -1,12 +1,13 @@
 -- A list of entries whose i-th has seqno i: what is found in it has its seqno.
-use Rattle.std.proofs.Common.{◌≡◌, ℕ, zero, suc, ◌+◌, ◌<◌, List, [], ◌∷◌, ◌++◌, length, drop, Option, None, Some, slice_get, Bor, IfSome, refl, sym, ap, ◌∙◌, inl, inr, arith}
+use Rattle.std.proofs.Common.{◌≡◌, ℕ, zero, suc, ◌+◌, ◌<◌, Bool, false, true, cond, List, [], ◌∷◌, ◌++◌, length, drop, Option, None, Some, slice_get, Bor, IfSome, nat_le, refl, sym, ap, ◌∙◌, inl, inr, arith}
 use Rattle.std.specs.List.{position_or_len}
 use Rattle.std.specs.Option.{option_copied}
+use Rattle.std.proofs.lemmas.Bool.Decides.{nat_tests}
 use Rattle.std.proofs.lemmas.List.Folds.{find_at}
 use Rattle.gl_base.proofs.Lists.{slice_get-drop, slice_get-of_append}
 use Rattle.gl_entry.specs.Entry.{is_signature}
 use Rattle.gl_entry.specs.declared.entry.Entry.{Entry}
-use Rattle.gl_receipt.specs.Made.{entry_at, signature_above}
+use Rattle.gl_receipt.specs.Made.{Ledger, entry_at, entry_above_base, signature_above}
 
 -- the entry at each index has the seqno of its place
 abbrev pub AreInOrder : List Entry → Type 0
@@ -28,6 +29,13 @@ pub entry_numbered : (es : List Entry) (seqno : ℕ) (o : Option (Bor Entry)) �
 entry_numbered es seqno None order there = tt
 entry_numbered es zero (Some e) order there = absurd (cc)
 entry_numbered es (suc i) (Some e) order there = order i e.now (sym there)
+
+-- ---- a base
+
+-- where none was let go, each entry is above the base
+pub held_whole : (l : Ledger) (seqno : ℕ) → l.base ≡ 0 → entry_above_base l seqno ≡ entry_at l.entries seqno
+held_whole l zero whole = let low : nat_le 0 l.base ≡ true = grind (arith, nat_tests) in λ i. cond {A = Option Entry} (low i) None (entry_at l.entries 0)
+held_whole l (suc n) whole = let high : nat_le (suc n) l.base ≡ false = grind (arith, nat_tests) in λ i. cond {A = Option Entry} (high i) None (entry_at l.entries (suc n))
 
 -- ---- the first signature above a seqno
 

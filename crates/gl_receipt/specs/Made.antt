@@ -22,11 +22,13 @@ use Rattle.gl_receipt.specs.declared.components.LeafComponents.{LeafComponents}
 use Rattle.gl_receipt.specs.declared.components.Receipt.{Receipt}
 use Rattle.gl_receipt.specs.declared.components.Signed.{Signed}
 use Rattle.gl_receipt.specs.declared.make_fault.MakeFault.{MakeFault}
-use Rattle.gl_receipt.specs.declared.make_fault.MakeFault.TheVariants.{NotCommitted, NoLaterSignature}
+use Rattle.gl_receipt.specs.declared.make_fault.MakeFault.TheVariants.{NotCommitted, BelowBase, NoLaterSignature}
 
 -- A ledger as receipts see it: its entries from seqno 1 on, their leaves in the Merkle tree, up to
--- which seqno it is committed, and the service's key in force at a seqno.
+-- which seqno it is committed, and the service's key in force at a seqno. Of the entries up to its
+-- base the views alone are still known to whom is asked; the base is 0 where all are known.
 pub record Ledger : Type 0 where
+  pub base : ℕ
   pub entries : List Entry
   pub leaves : List (List ℕ)
   pub commit : ℕ
@@ -40,6 +42,10 @@ at_seqno xs (suc index) = slice_get xs index
 -- The entry at a seqno.
 abbrev pub entry_at : List Entry → ℕ → Option Entry
 entry_at entries seqno = at_seqno entries seqno
+
+-- The entry at a seqno above the base.
+abbrev pub entry_above_base : Ledger → ℕ → Option Entry
+entry_above_base l seqno = if nat_le seqno l.base then None else entry_at l.entries seqno
 
 -- The view of the entry at a seqno.
 abbrev pub view_at : List Entry → ℕ → Option ℕ
@@ -64,6 +70,14 @@ if_committed statuses.Invalid entry = Err (NotCommitted statuses.Invalid)
 
 abbrev pub committed_entry : Ledger → TxId → Result Entry MakeFault
 committed_entry l id = if_committed (status_in l id) (entry_at l.entries id.seqno)
+
+-- A seqno that is asked to stand above the base.
+abbrev pub above_base : Ledger → ℕ → Result Unit MakeFault
+above_base l seqno = if nat_le seqno l.base then Err (BelowBase l.base) else Ok tt
+
+-- A transaction that is asked to be committed, and then to stand above the base.
+abbrev pub committed_above : Ledger → TxId → Result Unit MakeFault
+committed_above l id = committed_entry l id >>= λ e. above_base l id.seqno
 
 -- The first signature above a seqno, committed or not.
 abbrev pub signature_above : List Entry → ℕ → Option Entry
@@ -116,12 +130,12 @@ receipt_by l id e signature = record {
 }
 
 -- The receipt of a transaction by its ledger, or the first reason why there is none: the
--- transaction isn't committed, or no signature above it is, or the first one is under another key.
--- A ledger is here from its first entry on; one that begins above a base would have a further
--- reason between these two.
+-- transaction isn't committed; its entry isn't above the base; no signature above it is committed,
+-- or the first one is under another key.
 unfoldable pub receipt_of : Ledger → TxId → Result Receipt MakeFault
 receipt_of l id = do
   e ← committed_entry l id
+  above ← above_base l id.seqno
   signature ← later_signature l id.seqno
   Ok (receipt_by l id e signature)
 

@@ -12,6 +12,10 @@ pub enum MakeFault {
     /// By this ledger the transaction isn't committed.
     #[error("the transaction is not committed")]
     NotCommitted { status: Status },
+    /// The transaction is committed, and its entry isn't above the base up to which the ledger's
+    /// entries were let go.
+    #[error("the transaction is at or below the base {base}")]
+    BelowBase { base: u64 },
     /// No signature above the transaction is committed, or the first one is under another key of
     /// the service: the service was recovered between them.
     #[error("no signature under the same key is committed above the transaction, up to {commit}")]

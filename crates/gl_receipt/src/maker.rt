@@ -1,10 +1,10 @@
 //! The receipts that a ledger gives.
 
-ghost use Rattle.std.specs.Prelude.{◌≡◌, ◌-◌, ◌<◌, ◌≤◌, [], true, Ok, Err, Some, IfOk, IfErr, length};
+ghost use Rattle.std.specs.Prelude.{◌≡◌, ◌-◌, ◌<◌, ◌≤◌, [], true, Ok, Err, Some, IfOk, IfErr};
 ghost use Rattle.gl_base.specs.Answers.{Fails};
 ghost use Rattle.gl_entry.specs.Entry.{is_signature};
 ghost use Rattle.gl_entry.specs.Leaf.{evidence_text};
-ghost use Rattle.gl_receipt.specs.Made.{status_in, view_at, commit_id, committed_entry, is_under_same_key, later_signature, entry_at, components_of, recorded_signature, signed_in_entry, receipt_of, IsOfService};
+ghost use Rattle.gl_receipt.specs.Made.{Ledger, status_in, commit_id, committed_entry, above_base, committed_above, is_under_same_key, later_signature, entry_at, components_of, recorded_signature, signed_in_entry, receipt_of, IsOfService};
 ghost use Rattle.gl_receipt.specs.Receipt.{Accepts};
 
 use crate::components::{LeafComponents, Receipt, Signed};
@@ -15,22 +15,12 @@ use gl_base::{Bytes, OrNoMemory, Sequence, Status, TxId, same_bytes, status};
 use gl_entry::{Content, Entry, evidence};
 use std::alloc::{AllocError, Global};
 
-/// The view of the entry with a seqno.
-fn view_at<L: CommittedLedger>(ledger: &L, seqno: u64) -> Option<u32>
-    ensures { result ≡ view_at (L.ledger ledger.now).entries seqno }
-{
-    match ledger.entry(seqno) {
-        None => None,
-        Some(entry) => Some(entry.view),
-    }
-}
-
 /// The identifier of the last committed entry.
 fn commit_id<L: CommittedLedger>(ledger: &L) -> Option<TxId>
-    ensures { result ≡ commit_id (L.ledger ledger.now) }
+    ensures { (l : Ledger) → L.stands ledger.now l → result ≡ commit_id l }
 {
     let seqno = ledger.commit();
-    match view_at(ledger, seqno) {
+    match ledger.view_at(seqno) {
         None => None,
         Some(view) => Some(TxId { view, seqno }),
     }
@@ -38,48 +28,57 @@ fn commit_id<L: CommittedLedger>(ledger: &L) -> Option<TxId>
 
 /// The status of a transaction by this ledger.
 fn status_in<L: CommittedLedger>(ledger: &L, id: TxId) -> Status
-    ensures { result ≡ status_in (L.ledger ledger.now) id }
+    ensures { (l : Ledger) → L.stands ledger.now l → result ≡ status_in l id }
 {
-    status(id, view_at(ledger, id.seqno), commit_id(ledger))
+    status(id, ledger.view_at(id.seqno), commit_id(ledger))
 }
 
-/// The entry of a committed transaction.
+/// The entry of a committed transaction, which is asked to stand above the base.
 fn committed_entry<L: CommittedLedger>(ledger: &L, id: TxId) -> Result<&Entry, MakeFault>
-    ensures found { IfOk result (λ e. committed_entry (L.ledger ledger.now) id ≡ Ok e.now) }
-    ensures refused { IfErr result (λ fault.
-        committed_entry (L.ledger ledger.now) id ≡ Err fault) }
+    ensures found { (l : Ledger) → L.stands ledger.now l → IfOk result (λ e.
+        committed_entry l id ≡ Ok e.now) }
+    ensures above { (l : Ledger) → L.stands ledger.now l → IfOk result (λ e.
+        above_base l id.seqno ≡ Ok tt) }
+    ensures refused { (l : Ledger) → L.stands ledger.now l → IfErr result (λ fault.
+        committed_above l id ≡ Err fault) }
     ensures numbered { IfOk result (λ e. e.now.seqno ≡ id.seqno) }
-    ensures from_one { IfOk result (λ e. 0 < id.seqno) }
-    ensures within { IfOk result (λ e. id.seqno ≤ length (L.ledger ledger.now).entries) }
+    ensures above_base { IfOk result (λ e. L.base_of ledger.now < id.seqno) }
+    ensures within { IfOk result (λ e. id.seqno ≤ L.last_of ledger.now) }
 {
-    match (status_in(ledger, id), ledger.entry(id.seqno)) {
+    let status = status_in(ledger, id);
+    let base = ledger.base();
+    match (status, ledger.entry(id.seqno)) {
+        (Status::Committed, _) if id.seqno <= base => Err(MakeFault::BelowBase { base }),
         (Status::Committed, Some(entry)) => Ok(entry),
-        (status, _) => Err(MakeFault::NotCommitted { status }),
+        _ => Err(MakeFault::NotCommitted { status }),
     }
 }
 
 /// Whether the service's key in force at the one seqno is in force at the other.
 fn is_under_same_key<L: CommittedLedger>(ledger: &L, seqno: u64, other: u64) -> bool
-    requires from_one { 0 < seqno }
-    requires other_from_one { 0 < other }
-    requires within { seqno ≤ length (L.ledger ledger.now).entries }
-    requires other_within { other ≤ length (L.ledger ledger.now).entries }
-    ensures { result ≡ is_under_same_key (L.ledger ledger.now) seqno other }
+    requires above_base { L.base_of ledger.now < seqno }
+    requires other_above_base { L.base_of ledger.now < other }
+    requires within { seqno ≤ L.last_of ledger.now }
+    requires other_within { other ≤ L.last_of ledger.now }
+    ensures { (l : Ledger) → L.stands ledger.now l → result ≡ is_under_same_key l seqno other }
 {
     same_bytes(&ledger.identity(seqno), &ledger.identity(other))
 }
 
 /// The first signature above a seqno, where it is committed and under the same key.
 fn later_signature<L: CommittedLedger>(ledger: &L, seqno: u64) -> Result<&Entry, MakeFault>
-    requires from_one { 0 < seqno }
-    requires within { seqno ≤ length (L.ledger ledger.now).entries }
-    ensures found { IfOk result (λ e. later_signature (L.ledger ledger.now) seqno ≡ Ok e.now) }
-    ensures refused { IfErr result (λ fault.
-        later_signature (L.ledger ledger.now) seqno ≡ Err fault) }
+    requires above_base { L.base_of ledger.now < seqno }
+    requires within { seqno ≤ L.last_of ledger.now }
+    ensures found { (l : Ledger) → L.stands ledger.now l → IfOk result (λ e.
+        later_signature l seqno ≡ Ok e.now) }
+    ensures refused { (l : Ledger) → L.stands ledger.now l → IfErr result (λ fault.
+        later_signature l seqno ≡ Err fault) }
     ensures above { IfOk result (λ e. seqno < e.now.seqno) }
-    ensures numbered { IfOk result (λ e.
-        entry_at (L.ledger ledger.now).entries e.now.seqno ≡ Some e.now) }
-    ensures signs { IfOk result (λ e. is_signature e.now.content ≡ true) }
+    ensures within { IfOk result (λ e. e.now.seqno ≤ L.last_of ledger.now) }
+    ensures numbered { (l : Ledger) → L.stands ledger.now l → IfOk result (λ e.
+        entry_at l.entries e.now.seqno ≡ Some e.now) }
+    ensures signs { (l : Ledger) → L.stands ledger.now l → IfOk result (λ e.
+        is_signature e.now.content ≡ true) }
 {
     let commit = ledger.commit();
     match ledger.signature_above(seqno) {
@@ -138,19 +137,21 @@ fn signed_in_entry(entry: &Entry) -> Signed
 /// The receipt of a committed transaction by its ledger (CCF documentation, "Receipts"). The
 /// signature is the first one above it, which has to be committed too, and under the key that is in
 /// force at the transaction. Refused where the ledger's status of the transaction isn't Committed,
-/// and then where no such signature is there.
+/// then where its entry isn't above the base, and then where no such signature is there.
 #[tactic(auto, unfolding(crate::specs::Made::receipt_of))]
 pub fn make<L: CommittedLedger>(
     alloc: Global,
     ledger: &L,
     id: TxId,
 ) -> Result<Receipt, OrNoMemory<MakeFault>>
-    ensures made { IfOk result (λ r. receipt_of (L.ledger ledger.now) id ≡ Ok r) }
-    ensures refused { IfErr result (λ e. Fails e (receipt_of (L.ledger ledger.now) id)) }
+    ensures made { (l : Ledger) → L.stands ledger.now l → IfOk result (λ r.
+        receipt_of l id ≡ Ok r) }
+    ensures refused { (l : Ledger) → L.stands ledger.now l → IfErr result (λ e.
+        Fails e (receipt_of l id)) }
     // In a ledger of the service the receipt is accepted as that of the transaction, under the key
     // in force at it.
-    ensures accepted { IsOfService (L.ledger ledger.now) →
-        IfOk result (λ r. Accepts ((L.ledger ledger.now).identity id.seqno) r id) }
+    ensures accepted { (l : Ledger) → L.stands ledger.now l → IsOfService l → IfOk result (λ r.
+        Accepts (l.identity id.seqno) r id) }
 {
     let entry = committed_entry(ledger, id)?;
     let signature = later_signature(ledger, id.seqno)?;

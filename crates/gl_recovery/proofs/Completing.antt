@@ -33,11 +33,11 @@ use Rattle.gl_gov_rules.specs.declared.change.Change.TheVariants as changes
 use Rattle.gl_gov_rules.specs.declared.change.Changed.{Changed}
 use Rattle.gl_gov_rules.specs.declared.refusal.Cause.{Cause}
 use Rattle.gl_gov_rules.specs.declared.refusal.GovernanceRefusal.TheVariants as refusals
-use Rattle.gl_gov_rules.specs.History.{History, last_set, seqno_of}
+use Rattle.gl_gov_rules.specs.History.{History, last_set, seqno_of, Answered}
 use Rattle.gl_gov_rules.specs.Actions.{first_bad_action}
 use Rattle.gl_gov_rules.specs.Changes.{acceptance_changes, act_changes, ballot_changes, ballot_changes_on, changes_of, changed_at, history, is_complete, request_changes, set_member}
 use Rattle.gl_gov_rules.specs.Governed.{Follows, IsAbove, IsGoverned, is_founding, is_nothing, is_recovery}
-use Rattle.gl_gov_rules.specs.Proposals.{proposal}
+use Rattle.gl_gov_rules.specs.Proposals.{proposal, answers_with}
 use Rattle.gl_gov_rules.specs.Refusals.{is_dealt, secret_refusal, waiting_refusal}
 use Rattle.gl_gov_rules.specs.Service.{clears_shares, dealing, is_recovered, last_clearing, service_state, sets_state, share_after, share_in, shares_given, threshold_of}
 use Rattle.gl_gov_rules.specs.Service as service
@@ -109,9 +109,9 @@ ballot_opens_none h s id t list = by_count (is_accepted h t list) (is_rejected h
     by_count false true = refl
     by_count false false = refl
 
-answer_opens_none : (h : History) (rs : List Recorded) (s : ℕ) (id : List ℕ) (o : Option Proposal) → list_any opens (ballot_changes_on h rs s id o) ≡ false
-answer_opens_none h rs s id None = refl
-answer_opens_none h rs s id (Some p) = ballot_opens_none h s id (tally h rs id) p.actions
+answer_opens_none : (h : History) (given : List Answered) (s : ℕ) (id : List ℕ) (o : Option Proposal) → list_any opens (ballot_changes_on h given s id o) ≡ false
+answer_opens_none h given s id None = refl
+answer_opens_none h given s id (Some p) = ballot_opens_none h s id (tally h given id) p.actions
 
 -- a member's act that opens the service is a share that completes the threshold
 record IsLastShare (h : History) (a : MemberAct) : Type 0 where
@@ -119,12 +119,12 @@ record IsLastShare (h : History) (a : MemberAct) : Type 0 where
   gives : a ≡ acts.Share value
   complete : is_complete h ≡ true
 
-act_opens : (h : History) (rs : List Recorded) (s : ℕ) (a : MemberAct) → SetsOpen (last_set (sets_state true) (map (changed_at s) (act_changes h rs s a))) → IsLastShare h a
-act_opens h rs s acts.Ack is = absurd cc
-act_opens h rs s (acts.Propose list) is = absurd cc
-act_opens h rs s (acts.Ballot id agrees) is = absurd (never_open s (ballot_changes_on h rs s id (proposal h id)) (answer_opens_none h rs s id (proposal h id)) is)
-act_opens h rs s (acts.Withdraw id) is = absurd (never_open s (changes.Settled id states.Withdrawn ∷ []) refl is)
-act_opens h rs s (acts.Share value) is = by_count (is_complete h) refl is
+act_opens : (h : History) (given : List Answered) (s : ℕ) (a : MemberAct) → SetsOpen (last_set (sets_state true) (map (changed_at s) (act_changes h given s a))) → IsLastShare h a
+act_opens h given s acts.Ack is = absurd cc
+act_opens h given s (acts.Propose list) is = absurd cc
+act_opens h given s (acts.Ballot id agrees) is = absurd (never_open s (ballot_changes_on h given s id (proposal h id)) (answer_opens_none h given s id (proposal h id)) is)
+act_opens h given s (acts.Withdraw id) is = absurd (never_open s (changes.Settled id states.Withdrawn ∷ []) refl is)
+act_opens h given s (acts.Share value) is = by_count (is_complete h) refl is
   where
     by_count : (b : Bool) → is_complete h ≡ b → SetsOpen (last_set (sets_state true) (map (changed_at s) (if b then changes.Completed ∷ [] else []))) → IsLastShare h (acts.Share value)
     by_count true same is = record { value = value; gives = refl; complete = same }
@@ -148,7 +148,7 @@ unfolding is_recovered changes_of history
 founding_unrecovered rs r g none is =
     let brought : List Change → List Changed = map (changed_at r.seqno) in
     ap (list_any recovers) (changes_more rs r)
-    ∙ ap₂ (λ (xs : List Recorded) (q : GovernanceRequest). list_any recovers ((history xs).changes ++ brought (request_changes (history xs) ((history xs).requests ++ r ∷ []) r.seqno q))) none is
+    ∙ ap₂ (λ (xs : List Recorded) (q : GovernanceRequest). list_any recovers ((history xs).changes ++ brought (request_changes (history xs) (answers_with (history xs) r.request) r.seqno q))) none is
     ∙ none_recover r.seqno g.members
 
 -- ---- the seqno of the last clearing
@@ -207,7 +207,7 @@ module _ (rs : List Recorded) (r : Recorded) (all : IsGoverned (rs ++ r ∷ []))
   brought : changes_of (history rs) r ≡ changes.Completed ∷ []
   unfolding changes_of
   brought =
-      let rest = (history rs).requests ++ r ∷ [] in
+      let rest = answers_with (history rs) r.request in
       ap (request_changes (history rs) rest r.seqno) is ∙ ap (act_changes (history rs) rest r.seqno) last.gives
       ∙ ap (λ (b : Bool). if b then changes.Completed ∷ [] else []) last.complete
 
@@ -329,19 +329,19 @@ module _ (rs : List Recorded) (r : Recorded) (all : IsGoverned (rs ++ r ∷ []))
       let w = sym (founding_unrecovered rs r g none is) ∙ recovered in cc)
   by_request (requests.Recover q) is =
       absurd
-      (let w : Some services.Opening ≡ Some services.Open = sym (ap (λ (x : GovernanceRequest). option_or (last_set (sets_state true) (map (changed_at r.seqno) (request_changes (history rs) ((history rs).requests ++ r ∷ []) r.seqno x))) set_before) is) ∙ state_is in cc)
+      (let w : Some services.Opening ≡ Some services.Open = sym (ap (λ (x : GovernanceRequest). option_or (last_set (sets_state true) (map (changed_at r.seqno) (request_changes (history rs) (answers_with (history rs) r.request) r.seqno x))) set_before) is) ∙ state_is in cc)
   by_request (requests.Join n) is =
       absurd (quiet is (sets_open (sym (recovered_kept rs r (ap is_founding is) (ap is_recovery is)) ∙ recovered)))
     where
       quiet : r.request ≡ requests.Join n → SetsOpen set → ⊥
-      quiet is set_it = let w : SetsOpen None = ap (λ (x : GovernanceRequest). last_set (sets_state true) (map (changed_at r.seqno) (request_changes (history rs) ((history rs).requests ++ r ∷ []) r.seqno x))) (sym is) ∙ set_it in cc
+      quiet is set_it = let w : SetsOpen None = ap (λ (x : GovernanceRequest). last_set (sets_state true) (map (changed_at r.seqno) (request_changes (history rs) (answers_with (history rs) r.request) r.seqno x))) (sym is) ∙ set_it in cc
   by_request (requests.Mark id) is =
       absurd (quiet is (sets_open (sym (recovered_kept rs r (ap is_founding is) (ap is_recovery is)) ∙ recovered)))
     where
       quiet : r.request ≡ requests.Mark id → SetsOpen set → ⊥
-      quiet is set_it = let w : SetsOpen None = ap (λ (x : GovernanceRequest). last_set (sets_state true) (map (changed_at r.seqno) (request_changes (history rs) ((history rs).requests ++ r ∷ []) r.seqno x))) (sym is) ∙ set_it in cc
+      quiet is set_it = let w : SetsOpen None = ap (λ (x : GovernanceRequest). last_set (sets_state true) (map (changed_at r.seqno) (request_changes (history rs) (answers_with (history rs) r.request) r.seqno x))) (sym is) ∙ set_it in cc
   by_request (requests.Member m) is =
-      let rest = (history rs).requests ++ r ∷ [] in
+      let rest = answers_with (history rs) r.request in
       let sets : SetsOpen (last_set (sets_state true) (map (changed_at r.seqno) (act_changes (history rs) rest r.seqno m.act))) =
       ap (λ (x : GovernanceRequest). last_set (sets_state true) (map (changed_at r.seqno) (request_changes (history rs) rest r.seqno x))) (sym is)
       ∙ sets_open (sym (recovered_kept rs r (ap is_founding is) (ap is_recovery is)) ∙ recovered) in

@@ -17,12 +17,12 @@ use Rattle.gl_gov_rules.specs.declared.refusal.GovernanceRefusal.{GovernanceRefu
 use Rattle.gl_gov_rules.specs.declared.refusal.GovernanceRefusal.TheVariants as governance
 use Rattle.gl_entry.specs.declared.fault.EntryFault.{EntryFault}
 use Rattle.gl_ledger.specs.Audit.{LedgerFault, audited}
-use Rattle.gl_ledger.specs.Broken.{last_signed}
 use Rattle.gl_ledger.specs.NodeKeys.{service_layers}
 use Rattle.gl_ledger.specs.Ledger.{message_after, signature_entry}
 use Rattle.gl_ledger.specs.Recovery.{recovery_entry, recovery_result, recovery_view, with_recovery}
 use Rattle.gl_ledger.specs.declared.refusal.Refusal.{Refusal}
 use Rattle.gl_ledger.specs.declared.refusal.Refusal.TheVariants as refusals
+use Rattle.gl_ledger.specs.Past.{last_signed}
 use Rattle.gl_entry.specs.LedgerFile.{LedgerFile, ledger_file}
 use Rattle.gl_entry.specs.SourceBytes.{OfBytes}
 use Rattle.gl_entry.proofs.FileSteps.{of_map}

@@ -32,7 +32,8 @@ use Rattle.gl_gov_rules.specs.Signatures.{is_endorsed}
 use Rattle.gl_gov_rules.proofs.Digests.{sha256_digest}
 use Rattle.gl_gov_rules.proofs.Endorsements.{endorsement_means}
 use Rattle.gl_ledger.specs.Audit.{LedgerFault, audited, opened, opened_unless, opened_where, signer_of}
-use Rattle.gl_ledger.specs.Broken.{broken, is_unopened, last_signed, signs_at}
+use Rattle.gl_ledger.specs.Past.{is_unopened, last_signed, signs_at}
+use Rattle.gl_ledger.specs.Broken.{broken}
 use Rattle.gl_ledger.specs.Ledger.{message_after, signature_entry}
 use Rattle.gl_ledger.specs.NodeKeys.{IsNodeKey, NodeKeys, node_signature_fault, service_layers}
 use Rattle.gl_ledger.specs.Recordings.{last_entry, trusted_nodes}

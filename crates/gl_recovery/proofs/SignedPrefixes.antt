@@ -5,10 +5,10 @@ use Rattle.std.proofs.lemmas.List.{length-take-le}
 use Rattle.gl_base.proofs.Lists.{slice_get-take}
 use Rattle.gl_base.specs.TxId.{last_seqno}
 use Rattle.gl_entry.specs.declared.entry.Entry.{Entry}
-use Rattle.gl_ledger.specs.Broken.{last_signed, signs_at}
 use Rattle.gl_ledger.specs.Recordings.{last_entry}
 use Rattle.gl_ledger.specs.Recovery.{recovery_view}
 use Rattle.gl_ledger.specs.Signed.{IsSignedAt}
+use Rattle.gl_ledger.specs.Past.{last_signed, signs_at}
 use Rattle.gl_ledger.proofs.Signatures.{signed_at_last, signed_within}
 use Rattle.gl_recovery.specs.OldLedger.{has_room, signed_prefix, with_signature}
 use Rattle.gl_recovery.specs.declared.fault.RecoveryFault.TheVariants as faults

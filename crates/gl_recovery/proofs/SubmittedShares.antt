@@ -33,11 +33,11 @@ use Rattle.gl_gov_rules.specs.Actions.{◌orelse◌, where_is}
 use Rattle.gl_gov_rules.specs.Changes.{changes_of, changed_at, history, is_complete}
 use Rattle.gl_gov_rules.specs.Governed.{Follows, IsAbove, IsGoverned}
 use Rattle.gl_gov_rules.specs.Refusals.{act_refusal, has_given, is_dealt, refusal, secret_refusal, share_refusal, signed_refusal, waiting_refusal}
-use Rattle.gl_gov_rules.specs.Service.{clears_shares, dealing, last_clearing, service_state, sets_dealing, share_after, share_in, share_in_act, shares_given}
-use Rattle.gl_gov_rules.proofs.HistoryLists.{requests_of}
+use Rattle.gl_gov_rules.specs.Service.{clears_shares, dealing, given, last_clearing, service_state, sets_dealing, share_after, share_in, share_in_act, shares_given}
 use Rattle.gl_gov_rules.proofs.LastSet.{last_set-append, last_set-cons}
 use Rattle.gl_gov_rules.proofs.NoneStands.{none_of, not_bad, not_denied}
 use Rattle.gl_gov_rules.proofs.Prefixes.{changes_more, governed_induction}
+use Rattle.gl_gov_rules.proofs.NothingCarried.{shares_of_requests}
 
 -- ---- the last change that clears the shares
 
@@ -118,20 +118,20 @@ all_early q (x ∷ rs) r above low = (let one = above.0 in omega (arith, one), a
 
 -- they are cleared by what the request brings about
 pub shares_cleared : (rs : List Recorded) (r : Recorded) → IsAbove r.seqno rs → clear (changes_of (history rs) r) ≡ true → shares_given (history (rs ++ r ∷ [])) ≡ []
-unfolding shares_given
 shares_cleared rs r above some =
-    ap₂ (λ (q : ℕ) (xs : List Recorded). filter_map (share_after q) xs) (cleared_now rs r some) (requests_of (rs ++ r ∷ []))
+    shares_of_requests (rs ++ r ∷ [])
+    ∙ ap (λ (q : ℕ). filter_map (share_after q) (rs ++ r ∷ [])) (cleared_now rs r some)
     ∙ none_since r.seqno (rs ++ r ∷ []) (all_early r.seqno rs r above (omega arith))
 
 -- or else kept, with one that the request gives
 pub shares_kept : (rs : List Recorded) (r : Recorded) → clear (changes_of (history rs) r) ≡ false →
     shares_given (history (rs ++ r ∷ [])) ≡ shares_given (history rs) ++ cons_option (share_after (last_clearing (history rs)) r) []
-unfolding shares_given
 shares_kept rs r none =
     let q = last_clearing (history rs) in
-    ap₂ (λ (k : ℕ) (xs : List Recorded). filter_map (share_after k) xs) (cleared_before rs r none) (requests_of (rs ++ r ∷ []))
+    shares_of_requests (rs ++ r ∷ [])
+    ∙ ap (λ (k : ℕ). filter_map (share_after k) (rs ++ r ∷ [])) (cleared_before rs r none)
     ∙ filter_map-append (share_after q) rs (r ∷ [])
-    ∙ ap (λ (xs : List Recorded). filter_map (share_after q) xs ++ cons_option (share_after q r) []) (sym (requests_of rs))
+    ∙ ap (λ (ss : List Share). ss ++ cons_option (share_after q r) []) (sym (shares_of_requests rs))
 
 -- ---- the dealing
 
@@ -287,7 +287,7 @@ module _ (rs : List Recorded) (r : Recorded) (follows : Follows rs r) where
       record { distinct = same.0; own = same.1 }
 
 none_given : AreGiven (history [])
-unfolding history shares_given IsDistinct
+unfolding history shares_given given IsDistinct
 none_given = record { distinct = tt; own = tt }
 
 -- whatever requests were accepted one after another

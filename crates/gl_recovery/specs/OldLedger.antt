@@ -6,7 +6,8 @@ use Rattle.gl_base.specs.declared.or_no_memory.OrNoMemory.TheVariants.{NoMemory,
 use Rattle.gl_entry.specs.declared.entry.Entry.{Entry}
 use Rattle.gl_entry.specs.declared.fault.EntryFault.{EntryFault}
 use Rattle.gl_ledger.specs.Audit.{LedgerFault, audited}
-use Rattle.gl_ledger.specs.Broken.{broken, last_signed}
+use Rattle.gl_ledger.specs.Past.{last_signed}
+use Rattle.gl_ledger.specs.Broken.{broken}
 use Rattle.gl_ledger.specs.NodeKeys.{service_layers}
 use Rattle.gl_ledger.specs.Recovery.{recovery_view}
 use Rattle.gl_ledger.specs.declared.breach.Broken.{Broken}

@@ -8,13 +8,13 @@ use Rattle.gl_requests.specs.Encoding.{node_id}
 use Rattle.gl_requests.specs.declared.genesis.Recovery.{Recovery}
 use Rattle.gl_gov_rules.specs.declared.refusal.GovernanceRefusal.TheVariants as governance
 use Rattle.gl_ledger.specs.Audit.{audited, opened}
-use Rattle.gl_ledger.specs.Broken.{last_signed}
 use Rattle.gl_ledger.specs.NodeKeys.{service_layers}
 use Rattle.gl_ledger.specs.Recordings.{trusted_nodes}
 use Rattle.gl_ledger.specs.ServiceRow.{identity_in}
 use Rattle.gl_ledger.specs.Tree.{tables_of}
 use Rattle.gl_ledger.specs.declared.refusal.Refusal.{Refusal}
 use Rattle.gl_ledger.specs.declared.refusal.Refusal.TheVariants as refusals
+use Rattle.gl_ledger.specs.Past.{last_signed}
 use Rattle.gl_entry.specs.LedgerFile.{ledger_file, no_entries, with_entries}
 use Rattle.gl_forms.specs.Settings.{recovery_in}
 use Rattle.gl_forms.specs.Text.{from_text}

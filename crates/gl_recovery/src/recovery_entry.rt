@@ -4,9 +4,9 @@ ghost use Rattle.std.specs.Prelude.{◌≡◌, ◌≤◌, ◌<◌, ◌+◌, ◌^
 ghost use Rattle.gl_base.specs.Answers.{Fails};
 ghost use Rattle.gl_base.specs.TxId.{last_seqno};
 ghost use Rattle.gl_requests.specs.Ranges.{is_recovery};
-ghost use Rattle.gl_ledger.specs.Broken.{signs_at};
 ghost use Rattle.gl_ledger.specs.Recordings.{last_entry};
 ghost use Rattle.gl_ledger.specs.Recovery.{recovery_entry, recovery_result, recovery_view, with_recovery};
+ghost use Rattle.gl_ledger.specs.Past.{signs_at};
 ghost use Rattle.gl_recovery.specs.OldLedger.{has_room, with_signature};
 ghost use Rattle.gl_recovery.specs.ExpectedOutput.{fault_of, unless_refused};
 

@@ -18,12 +18,12 @@ use Rattle.gl_replication.proofs.Merging.{all_held, below_commit, some_new}
 use Rattle.gl_replication.proofs.Appending.{matching_is, other_is, message_low, message_led, message_on}
 
 module _ {E Q G R A F : Type 0} (b : Book E Q G R A F) where
-  appended_is : (l es r : List E) → checked_append b l es ≡ Ok r → r ≡ l ++ es
+  appended_is : (base : ℕ) (l es r : List E) → checked_append b base l es ≡ Ok r → r ≡ l ++ es
   unfolding checked_append
-  appended_is l [] r is = let q : l ≡ r = cc in sym q ∙ sym (append-nil l)
-  appended_is l (e ∷ es) r is = go (b.breaks l e) is (appended_is (l ++ e ∷ []) es r)
+  appended_is base l [] r is = let q : l ≡ r = cc in sym q ∙ sym (append-nil l)
+  appended_is base l (e ∷ es) r is = go (b.breaks base l e) is (appended_is base (l ++ e ∷ []) es r)
     where
-      go : (o : Option F) → unless_broken b o (checked_append b (l ++ e ∷ []) es) ≡ Ok r → (checked_append b (l ++ e ∷ []) es ≡ Ok r → r ≡ (l ++ e ∷ []) ++ es) → r ≡ l ++ e ∷ es
+      go : (o : Option F) → unless_broken b o (checked_append b base (l ++ e ∷ []) es) ≡ Ok r → (checked_append b base (l ++ e ∷ []) es ≡ Ok r → r ≡ (l ++ e ∷ []) ++ es) → r ≡ l ++ e ∷ es
       go None w again = again w ∙ push_append l e es
       go (Some why) w again = absurd (cc)
 
@@ -115,10 +115,10 @@ module _ {E Q G R A F : Type 0} (b : Book E Q G R A F) (x y : NodeId) (view : �
             is : merged ≡ merge_entries b x y prev.seqno es held theirs followed
             is = matching_is b x y view n low prev es theirs len within log_is held t h
 
-            checked : (never : (why : Refusal F) → merged.outcome ≡ Refused why → ⊥) → (nat_lt cut len && nat_lt cut n.commit) ≡ false → (r : Result (List E) F) → checked_append b (take cut n.log) (drop held es) ≡ r → KeepsUpTo cut es n merged
+            checked : (never : (why : Refusal F) → merged.outcome ≡ Refused why → ⊥) → (nat_lt cut len && nat_lt cut n.commit) ≡ false → (r : Result (List E) F) → checked_append b n.base (take cut n.log) (drop held es) ≡ r → KeepsUpTo cut es n merged
             checked never above (Err why) e = absurd (never (ByLedger why) (ap (λ (m : Step E A F). m.outcome) (is ∙ some_new b y view n low x len prev.seqno es held theirs within log_is other above reach (Err why) e)))
-            checked never above (Ok log) e = new_keeps merged (ap (λ (m : Step E A F). m.node.log) (is ∙ some_new b y view n low x len prev.seqno es held theirs within log_is other above reach (Ok log) e) ∙ appended_is b (take cut n.log) (drop held es) log e)
+            checked never above (Ok log) e = new_keeps merged (ap (λ (m : Step E A F). m.node.log) (is ∙ some_new b y view n low x len prev.seqno es held theirs within log_is other above reach (Ok log) e) ∙ appended_is b n.base (take cut n.log) (drop held es) log e)
 
             go : (never : (why : Refusal F) → merged.outcome ≡ Refused why → ⊥) → (below : Bool) → (nat_lt cut len && nat_lt cut n.commit) ≡ below → KeepsUpTo cut es n merged
             go never true e = absurd (never (BelowCommit n.commit cut) (ap (λ (m : Step E A F). m.outcome) is ∙ below_commit b y view n low x len prev.seqno es held theirs within log_is other e))
-            go never false e = checked never e (checked_append b (take cut n.log) (drop held es)) refl
+            go never false e = checked never e (checked_append b n.base (take cut n.log) (drop held es)) refl

@@ -49,6 +49,14 @@ module _ {E Q G R A F : Type 0} (b : Book E Q G R A F) (y : NodeId) (view : ℕ)
       go true = refl
       go false = refl
 
+  base_kept : f.base ≡ n.base
+  unfolding enter_view
+  base_kept = go (nat_lt n.view view)
+    where
+      go : (t : Bool) → (if t then enter_view b view n else n).base ≡ n.base
+      go true = refl
+      go false = refl
+
   module _ (x : NodeId) (len prev : ℕ) (es : List E) (held theirs : ℕ) (within : len ≤ length n.log) (log_is : (update_view b view n).log ≡ take len n.log) where
     length_is : length f.log ≡ len
     length_is = ap length log_is ∙ (let e : length (take len n.log) ≡ len = omega (arith, length-take len n.log) in e)
@@ -59,19 +67,19 @@ module _ {E Q G R A F : Type 0} (b : Book E Q G R A F) (y : NodeId) (view : ℕ)
         ap {B = Step E A F} (λ u. if u then accept_entries b x y (prev + length es) theirs f else (
         if nat_lt (prev + held) (length f.log) && nat_lt (prev + held) f.commit
         then outcomes.refuse f (BelowCommit f.commit (prev + held))
-        else accept_or_refuse b f x y (prev + length es) theirs (cut_to (prev + held) f) (checked_append b (take (prev + held) f.log) (drop held es))
+        else accept_or_refuse b f x y (prev + length es) theirs (cut_to (prev + held) f) (checked_append b f.base (take (prev + held) f.log) (drop held es))
         )) t
 
     not_all : (held ≡ length es → ⊥) → merge_entries b x y prev es held theirs f ≡ (
         if nat_lt (prev + held) (length f.log) && nat_lt (prev + held) f.commit
         then outcomes.refuse f (BelowCommit f.commit (prev + held))
-        else accept_or_refuse b f x y (prev + length es) theirs (cut_to (prev + held) f) (checked_append b (take (prev + held) f.log) (drop held es)))
+        else accept_or_refuse b f x y (prev + length es) theirs (cut_to (prev + held) f) (checked_append b f.base (take (prev + held) f.log) (drop held es)))
     not_all other =
         let t : (held == length es) ≡ false = grind (arith, nat_tests) in
         ap {B = Step E A F} (λ u. if u then accept_entries b x y (prev + length es) theirs f else (
         if nat_lt (prev + held) (length f.log) && nat_lt (prev + held) f.commit
         then outcomes.refuse f (BelowCommit f.commit (prev + held))
-        else accept_or_refuse b f x y (prev + length es) theirs (cut_to (prev + held) f) (checked_append b (take (prev + held) f.log) (drop held es))
+        else accept_or_refuse b f x y (prev + length es) theirs (cut_to (prev + held) f) (checked_append b f.base (take (prev + held) f.log) (drop held es))
         )) t
 
     test_is : (nat_lt (prev + held) (length f.log) && nat_lt (prev + held) f.commit) ≡ (nat_lt (prev + held) len && nat_lt (prev + held) n.commit)
@@ -81,16 +89,17 @@ module _ {E Q G R A F : Type 0} (b : Book E Q G R A F) (y : NodeId) (view : ℕ)
     below_commit other below =
         ap {B = outcomes.Outcome A F} (λ (m : Step E A F). m.outcome) (not_all other
         ∙ ap {B = Step E A F} (λ p. if p then outcomes.refuse f (BelowCommit f.commit (prev + held))
-        else accept_or_refuse b f x y (prev + length es) theirs (cut_to (prev + held) f) (checked_append b (take (prev + held) f.log) (drop held es))) (test_is ∙ below))
+        else accept_or_refuse b f x y (prev + length es) theirs (cut_to (prev + held) f) (checked_append b f.base (take (prev + held) f.log) (drop held es))) (test_is ∙ below))
         ∙ ap {B = outcomes.Outcome A F} (λ k. Refused (BelowCommit k (prev + held))) commit_kept
 
-    pub some_new : (held ≡ length es → ⊥) → (nat_lt (prev + held) len && nat_lt (prev + held) n.commit) ≡ false → prev + held ≤ len → (r : Result (List E) F) → checked_append b (take (prev + held) n.log) (drop held es) ≡ r →
+    pub some_new : (held ≡ length es → ⊥) → (nat_lt (prev + held) len && nat_lt (prev + held) n.commit) ≡ false → prev + held ≤ len → (r : Result (List E) F) → checked_append b n.base (take (prev + held) n.log) (drop held es) ≡ r →
         merge_entries b x y prev es held theirs f ≡ accept_or_refuse b f x y (prev + length es) theirs (cut_to (prev + held) f) r
     some_new other above reach r is =
         not_all other
         ∙ ap {B = Step E A F} (λ p. if p then outcomes.refuse f (BelowCommit f.commit (prev + held))
-        else accept_or_refuse b f x y (prev + length es) theirs (cut_to (prev + held) f) (checked_append b (take (prev + held) f.log) (drop held es))) (test_is ∙ above)
-        ∙ ap {B = Step E A F} (λ m. accept_or_refuse b f x y (prev + length es) theirs (cut_to (prev + held) f) (checked_append b m (drop held es))) (ap (take (prev + held)) log_is ∙ take_part (prev + held) len n.log reach)
+        else accept_or_refuse b f x y (prev + length es) theirs (cut_to (prev + held) f) (checked_append b f.base (take (prev + held) f.log) (drop held es))) (test_is ∙ above)
+        ∙ ap {B = Step E A F} (λ m. accept_or_refuse b f x y (prev + length es) theirs (cut_to (prev + held) f) (checked_append b f.base m (drop held es))) (ap (take (prev + held)) log_is ∙ take_part (prev + held) len n.log reach)
+        ∙ ap {B = Step E A F} (λ k. accept_or_refuse b f x y (prev + length es) theirs (cut_to (prev + held) f) (checked_append b k (take (prev + held) n.log) (drop held es))) base_kept
         ∙ ap {B = Step E A F} (accept_or_refuse b f x y (prev + length es) theirs (cut_to (prev + held) f)) is
 
 module _ {S Q G R A F : Type 0} (stands : S → Book Entry Q G R A F → Holding Entry → Type 0) where

@@ -43,20 +43,20 @@ none_above s l c (suc k) = ap (λ m. if nat_lt c (suc k) then m ++ [] else []) (
 pub none_active : (s : Entry) (l : List Entry) (c : ℕ) → active (plain s) l c ≡ []
 none_active s l c = ap (λ m. option_to_list m ++ configurations_above (plain s) l c (length l)) (none_at s l c) ∙ none_above s l c (length l)
 
-pub all_appended : (s : Entry) (l es : List Entry) → checked_append (plain s) l es ≡ Ok (l ++ es)
+pub all_appended : (s : Entry) (base : ℕ) (l es : List Entry) → checked_append (plain s) base l es ≡ Ok (l ++ es)
 unfolding checked_append
-all_appended s l [] = ap Ok (sym (append-nil l))
-all_appended s l (e ∷ es) = all_appended s (l ++ e ∷ []) es ∙ ap Ok (append_assoc l (e ∷ []) es)
+all_appended s base l [] = ap Ok (sym (append-nil l))
+all_appended s base l (e ∷ es) = all_appended s base (l ++ e ∷ []) es ∙ ap Ok (append_assoc l (e ∷ []) es)
 
 pub none_of : (commit : ℕ) → sets_of (active_of [] commit) ≡ []
 unfolding active_of last_of
 none_of commit = refl
 
 pub replaced : {b : Book Entry Entry ℕ ℕ ℕ ℕ} {h : Holding Entry} (signature : Entry) (me : NodeId) (log new : List Entry) (seqno : ℕ) (es : List Entry) → (b ≡ plain signature) × (h ≡ holding me log) → new ≡ take seqno log ++ es →
-    (m : List Entry) × (checked_append b (take seqno h.log) es ≡ Ok m) × ((b ≡ plain signature) × (with_log h m ≡ holding me new))
+    (m : List Entry) × (checked_append b h.base (take seqno h.log) es ≡ Ok m) × ((b ≡ plain signature) × (with_log h m ≡ holding me new))
 replaced signature me log new seqno es w is =
-    whole signature me log (λ b h. (m : List Entry) × (checked_append b (take seqno h.log) es ≡ Ok m) × ((b ≡ plain signature) × (with_log h m ≡ holding me new))) w
-    (take seqno log ++ es, all_appended signature (take seqno log) es, (refl, ap (holding me) (sym is)))
+    whole signature me log (λ b h. (m : List Entry) × (checked_append b h.base (take seqno h.log) es ≡ Ok m) × ((b ≡ plain signature) × (with_log h m ≡ holding me new))) w
+    (take seqno log ++ es, all_appended signature 0 (take seqno log) es, (refl, ap (holding me) (sym is)))
 
 fits_none : (s : Entry) (es : List Entry) → fitting_prefix (plain s) 63 0 es ≡ []
 unfolding fitting_prefix

@@ -26,8 +26,8 @@ plain signature = record {
   evidence = λ log view. Err 0;
   marked_node = λ g. None;
   mark_refusal = λ log y. None;
-  conflict = λ log len reads. None;
-  breaks = λ log e. None;
+  conflict = λ base log len reads. None;
+  breaks = λ base log e. None;
 }
 
 -- What a store with this ledger holds.

@@ -177,10 +177,10 @@ impl<B: Book> Core<B> {
 
     /// The log cut to a seqno, and these entries after it. All or nothing.
     fn append_after(&mut self, seqno: u64, entries: &[Entry]) -> Result<(), OrNoMemory<B::Refused>>
-        ensures grown { IfOk result (λ r. Grows B.stands (λ b n l. checked_append b (take seqno
-            n.log) entries.now ≡ Ok l) (λ b n l. record n { log = l }) self.old self.new) }
+        ensures grown { IfOk result (λ r. Grows B.stands (λ b n l. checked_append b n.base (take
+            seqno n.log) entries.now ≡ Ok l) (λ b n l. record n { log = l }) self.old self.new) }
         ensures refused { IfErr result (λ e. Reports B.stands self.old (λ b x n. Fails e
-            (checked_append b (take seqno n.log) entries.now))) }
+            (checked_append b n.base (take seqno n.log) entries.now))) }
         ensures err { OnErr result (KeepsAll B.stands self.old self.new) }
     {
         self.book.replace_tail(seqno, entries)
@@ -199,11 +199,11 @@ impl<B: Book> Core<B> {
         requires within { seqno ≤ len }
         requires len { Reports B.stands self.old (λ b x n. (len ≤ length n.log) × ((update_view b
             view n).log ≡ take len n.log)) }
-        ensures grown { IfOk result (λ r. Grows B.stands (λ b n l. checked_append b (take seqno
-            n.log) entries.now ≡ Ok l) (λ b n l. record (cut_to seqno (become_follower b y
+        ensures grown { IfOk result (λ r. Grows B.stands (λ b n l. checked_append b n.base (take
+            seqno n.log) entries.now ≡ Ok l) (λ b n l. record (cut_to seqno (become_follower b y
             (update_view b view n))) { log = l }) self.old self.new) }
         ensures refused { IfErr result (λ e. Reports B.stands self.old (λ b x n. Fails e
-            (checked_append b (take seqno n.log) entries.now))) }
+            (checked_append b n.base (take seqno n.log) entries.now))) }
         ensures err { OnErr result (KeepsAll B.stands self.old self.new) }
     {
         let before = self.book.ledger_len();

@@ -162,9 +162,9 @@ pub trait Book: Drop {
         entries: &[Entry],
     ) -> Result<(), OrNoMemory<Self::Refused>>
         ensures replaced { IfOk result (λ r. Becomes stands self.old self.new (λ b h log.
-            checked_append b (take seqno h.log) entries.now ≡ Ok log)) }
+            checked_append b h.base (take seqno h.log) entries.now ≡ Ok log)) }
         ensures refused { IfErr result (λ e. At stands self.old (λ b h.
-            Fails e (checked_append b (take seqno h.log) entries.now))) }
+            Fails e (checked_append b h.base (take seqno h.log) entries.now))) }
         ensures err { OnErr result (Stays stands self.old self.new) };
 
     /// Cuts the ledger to a seqno.

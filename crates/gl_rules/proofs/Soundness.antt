@@ -11,22 +11,22 @@ module _ {E Q G R A F : Type 0} (b : Book E Q G R A F) where
   sound_cut l k z i e a =
       let r = get_take k l i e a in
       let cut : take i (take k l) ≡ take i l = same_take i (take k l) l (omega (arith, within (take k l) i e a)) (λ j x h d. (get_take k l j x d).1) in
-      ap (λ m. b.breaks m e) cut ∙ z i e r.1
+      ap (λ m. b.breaks 0 m e) cut ∙ z i e r.1
 
-  pub sound_push : (l : List E) (e : E) → EachFollows b l → b.breaks l e ≡ None → EachFollows b (l ++ e ∷ [])
+  pub sound_push : (l : List E) (e : E) → EachFollows b l → b.breaks 0 l e ≡ None → EachFollows b (l ++ e ∷ [])
   sound_push l e z f i d a = ⊎_elim
       (λ (q : slice_get l i ≡ Some d).
       let cut : take i l ≡ take i (l ++ e ∷ []) = same_take i l (l ++ e ∷ []) (omega (arith, within l i d q)) (λ j y h w. get_left l (e ∷ []) j y w) in
-      ap (λ m. b.breaks m d) (sym cut) ∙ z i d q)
+      ap (λ m. b.breaks 0 m d) (sym cut) ∙ z i d q)
       (λ (q : (i ≡ length l) × (d ≡ e)).
       let cut : take i l ≡ take i (l ++ e ∷ []) = same_take i l (l ++ e ∷ []) (omega (arith, q.0)) (λ j y h w. get_left l (e ∷ []) j y w) in
       let all : take i l ≡ l = ap (λ k. take k l) q.0 ∙ take_whole l in
-      ap (λ m. b.breaks m d) (sym cut ∙ all) ∙ ap (b.breaks l) q.1 ∙ f)
+      ap (λ m. b.breaks 0 m d) (sym cut ∙ all) ∙ ap (b.breaks 0 l) q.1 ∙ f)
       (get_push l e i d a)
 
 -- what holds of the empty ledger, and is kept by an entry that may follow
 module _ {E Q G R A F : Type 0} (b : Book E Q G R A F) (Sound : List E → Type 0) (none : Sound [])
-    (taken : (log : List E) (e : E) → EachFollows b log → Sound log → b.breaks log e ≡ None → Sound (log ++ e ∷ [])) where
+    (taken : (log : List E) (e : E) → EachFollows b log → Sound log → b.breaks 0 log e ≡ None → Sound (log ++ e ∷ [])) where
   upto : (l : List E) → EachFollows b l → (k : ℕ) → Sound (take k l)
   upto l z zero = none
   upto l z (suc k) = ⊎_elim

@@ -33,7 +33,9 @@ pub record Book (E Q G R A F : Type 0) : Type 0 where
   -- which node a governance request marks, if it is a mark, and why that node can't be marked
   pub marked_node : G → Option NodeId
   pub mark_refusal : List E → NodeId → Option F
+  -- The seqno that stands first in these two: the entries up to it came by a snapshot, 0 for none.
+  -- The node doesn't hold those entries themselves, so less can be asked of what stands there.
   -- the refusal where a read key or map has changed above a length
-  pub conflict : List E → ℕ → R → Option F
+  pub conflict : ℕ → List E → ℕ → R → Option F
   -- the rule that an entry breaks after a ledger; None: it may follow
-  pub breaks : List E → E → Option F
+  pub breaks : ℕ → List E → E → Option F

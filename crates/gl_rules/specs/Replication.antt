@@ -96,10 +96,11 @@ module _ {E Q G R A F : Type 0} (book : Book E Q G R A F) where
   unless_broken (Some why) rest = Err why
 
   -- The log with these entries appended, or the rule that the first of them breaks that breaks one.
-  unfoldable pub checked_append : List E → List E → Result (List E) F
-  checked_append log [] = Ok log
-  checked_append log (e ∷ es) =
-      unless_broken (book.breaks log e) (checked_append (log ++ e ∷ []) es)
+  -- The entries of the log up to the base came by a snapshot, and aren't held.
+  unfoldable pub checked_append : ℕ → List E → List E → Result (List E) F
+  checked_append base log [] = Ok log
+  checked_append base log (e ∷ es) =
+      unless_broken (book.breaks base log e) (checked_append base (log ++ e ∷ []) es)
 
   -- The greatest seqno up to this one whose entry's view is at most this one, else 0.
   unfoldable pub highest_possible_match : List E → ℕ → ℕ → ℕ
@@ -138,7 +139,7 @@ module _ {E Q G R A F : Type 0} (book : Book E Q G R A F) where
       then refuse n (BelowCommit n.commit (prev + held))
       else (
       accept_or_refuse n x y (prev + length es) theirs (cut_to (prev + held) n)
-      (checked_append (take (prev + held) n.log) (drop held es))
+      (checked_append n.base (take (prev + held) n.log) (drop held es))
       )
       )
 

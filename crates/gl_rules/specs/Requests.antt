@@ -35,7 +35,7 @@ module _ {E Q G R A F : Type 0} (book : Book E Q G R A F) where
   finish_as_leader len cuts reads q n =
       if not (n.cuts == cuts) || (n.cuts == last_count)
       then refuse n (RolledBack cuts n.cuts)
-      else unless_conflict (book.conflict n.log len reads) n (execute_request q n)
+      else unless_conflict (book.conflict n.base n.log len reads) n (execute_request q n)
 
   -- Finish x (len, cuts, reads, q): a transaction that began at this length and count of cuts and
   -- read these keys.

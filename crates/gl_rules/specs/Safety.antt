@@ -32,14 +32,16 @@ pub record LeavesAll {E : Type 0} (w v : World E) : Type 0 where
 
 module _ {E Q G R A F : Type 0} (book : Book E Q G R A F) where
   -- An entry that a ledger takes in a view: it may follow, and the ledger with it is sound again.
+  -- Here, and in all that is asked of ledgers below, none of their entries came by a snapshot: each
+  -- is tried by the whole rule.
   pub record Makes (Sound : List E → Type 0) (log : List E) (view : ℕ) (e : E) : Type 0 where
     pub view_is : book.view_of e ≡ view
-    pub follows : book.breaks log e ≡ None
+    pub follows : book.breaks 0 log e ≡ None
     pub sound : Sound (log ++ e ∷ [])
 
   -- A ledger whose every entry may follow those before it.
   abbrev pub EachFollows : List E → Type 0
-  EachFollows log = (i : ℕ) (e : E) → slice_get log i ≡ Some e → book.breaks (take i log) e ≡ None
+  EachFollows log = (i : ℕ) (e : E) → slice_get log i ≡ Some e → book.breaks 0 (take i log) e ≡ None
 
   -- Each view of the ledger is at most this one.
   abbrev pub ViewsUpTo : ℕ → List E → Type 0
@@ -90,8 +92,11 @@ module _ {E Q G R A F : Type 0} (book : Book E Q G R A F) where
         book.evidence log view ≡ Ok e →
         Makes Sound log view e × (book.is_signature e ≡ false) × MarksNone log e
     -- what is taken
-    pub taken : (log : List E) (e : E) → Sound log → book.breaks log e ≡ None →
+    pub taken : (log : List E) (e : E) → Sound log → book.breaks 0 log e ≡ None →
         Sound (log ++ e ∷ [])
+    -- an entry that may follow may follow also where the entries up to a base came by a snapshot
+    pub weaker : (log : List E) (e : E) (base : ℕ) → book.breaks 0 log e ≡ None →
+        book.breaks base log e ≡ None
     pub cut : (log : List E) (seqno : ℕ) → Sound log → Sound (take seqno log)
     -- an evidence entry stands right after a signature
     pub witnessed : (log : List E) (seqno : ℕ) (e : E) → Sound log →
@@ -123,7 +128,7 @@ module _ {E Q G R A F : Type 0} (book : Book E Q G R A F) where
     pub sound : Sound s.opening
     pub views : (i : ℕ) (e : E) → slice_get s.opening i ≡ Some e → book.view_of e ≡ first_view
     pub follow : (i : ℕ) (e : E) → slice_get s.opening i ≡ Some e →
-        book.breaks (take i s.opening) e ≡ None
+        book.breaks 0 (take i s.opening) e ≡ None
     pub before : ℕ
     pub long : length s.opening ≡ suc before
     pub signature : E

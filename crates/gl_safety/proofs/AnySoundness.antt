@@ -1,7 +1,6 @@
 -- The headline for whatever the layer of the ledger says of a ledger, where it is kept by an entry
 -- that may follow.
-use Rattle.std.proofs.Common.{◌≡◌, ⊎_elim, ℕ, zero, suc, ◌≤◌, ◌<◌, List, [], ◌∷◌, ◌++◌, length, take, Option, None, refl, ap, subst, arith}
-use Rattle.std.proofs.lemmas.Bool.{cases_lt}
+use Rattle.std.proofs.Common.{◌≡◌, ℕ, List, [], ◌∷◌, ◌++◌, Option, None}
 use Rattle.gl_rules.specs.Book.{Book}
 use Rattle.gl_rules.specs.World.{Start, Event}
 use Rattle.gl_rules.specs.Safety.{IsLawful, IsOpening, IsSafe, EachFollows, Makes, KeepsPlaces}
@@ -11,7 +10,7 @@ use Rattle.gl_safety.proofs.Headline.{safe}
 
 -- what holds of the empty ledger, and is kept by an entry that may follow
 module _ {E Q G R A F : Type 0} (b : Book E Q G R A F) (Sound : List E → Type 0) (none : Sound [])
-    (taken : (log : List E) (e : E) → EachFollows b log → Sound log → b.breaks log e ≡ None → Sound (log ++ e ∷ [])) where
+    (taken : (log : List E) (e : E) → EachFollows b log → Sound log → b.breaks 0 log e ≡ None → Sound (log ++ e ∷ [])) where
   -- the headline, with what a layer says of a ledger
   pub safe_for : {s : Start E} → IsOpening b (EachFollows b) s → IsLawful b (EachFollows b) → (es : List (Event Q G R)) → IsSafe b Sound s es
   safe_for o la es = let r = safe o la es in record { prefix = r.prefix; status = r.status; ledger = λ i x. follows_sound b Sound none taken _ (r.ledger i x) }
@@ -41,6 +40,7 @@ module _ {E Q G R A F : Type 0} {b : Book E Q G R A F} {Sound : List E → Type 
     signed = λ x leaf log view commit e z v c h. let r = la.signed x leaf log view commit e (each_sound log z) v c h in (made log view e z r.0, r.1, r.2);
     evident = λ log view e z v d. let r = la.evident log view e (each_sound log z) v d in (made log view e z r.0, r.1, r.2);
     taken = λ log e z f. sound_push b log e z f;
+    weaker = la.weaker;
     cut = λ log seqno z. sound_cut b log seqno z;
     witnessed = λ log seqno e z a d. la.witnessed log seqno e (each_sound log z) a d;
     removals = places b.removal la.removals;

@@ -98,7 +98,7 @@ module _ {E Q G R A F : Type 0} {b : Book E Q G R A F} {s : Start E} (o : IsOpen
     marks = λ v. by_test (MarksKnown b) (v == 2) s.opening [] (λ d. opening_marks) (λ d. record { known = λ y m q a k i e c z h. nothing i e c });
   }
     where
-      follows_at : (v i : ℕ) (e : E) (m : Bool) → slice_get (if m then s.opening else []) i ≡ Some e → b.breaks (take i (if m then s.opening else [])) e ≡ None
+      follows_at : (v i : ℕ) (e : E) (m : Bool) → slice_get (if m then s.opening else []) i ≡ Some e → b.breaks 0 (take i (if m then s.opening else [])) e ≡ None
       follows_at v i e true a = o.sound i e a
       follows_at v i e false a = absurd (cc)
 

@@ -97,7 +97,7 @@ module _ {E Q G R A F : Type 0} {b : Book E Q G R A F} {s : Start E} (o : IsOpen
     pub shuts : (c : NodeId) (w : ℕ) (y : NodeId) → g.shut c w y ≡ true → (v : ℕ) × (i : ℕ) × (e : E) × (w ≤ v) × Holds g y v i × Mark b g.led v i e
     pub stood : (c : NodeId) (w : ℕ) (y : NodeId) → g.shut c w y ≡ true → (l : Position) × (g.bid c w ≡ Some l)
     pub ballots : (y : NodeId) → Ballots b g y
-    pub follows : (v i : ℕ) (e : E) → slice_get (g.led v) i ≡ Some e → b.breaks (take i (g.led v)) e ≡ None
+    pub follows : (v i : ℕ) (e : E) → slice_get (g.led v) i ≡ Some e → b.breaks 0 (take i (g.led v)) e ≡ None
     pub marks : (v : ℕ) → MarksKnown b (g.led v)
 
   -- what stays

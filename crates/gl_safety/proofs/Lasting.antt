@@ -23,7 +23,6 @@ use Rattle.gl_safety.proofs.Certificates.{Cert, Sured, Tale}
 use Rattle.gl_safety.proofs.Complete.{chief_of_led, complete}
 use Rattle.gl_safety.proofs.Signatures.{signed_keeps}
 use Rattle.gl_safety.proofs.Invariants.{Good, BodySent, sent_at}
-use Rattle.gl_rules.proofs.Soundness.{sound_cut}
 use Rattle.gl_safety.proofs.Standing.{good_rise}
 use Rattle.gl_safety.proofs.Following.{good_follow}
 use Rattle.gl_safety.proofs.Merging.{held_le, held_ends, applied_is}
@@ -103,22 +102,22 @@ module _ {E Q G R A F : Type 0} {b : Book E Q G R A F} {s : Start E} (o : IsOpen
               let same : mine.0 ≡ f.0 = let u = sym in_n ∙ at_led in cc in
               held_ends b (drop prev.seqno n.log) es mine.0 f.0 (drop_get prev.seqno n.log (matching_prefix_len b (drop prev.seqno n.log) es) k d ∙ mine.1) f.1 (ap b.view_of same)
 
-      extended : (k : ℕ) → i < k → (m : Result (List E) F) → checked_append b (take k n.log) (drop (matching_prefix_len b (drop prev.seqno n.log) es) es) ≡ m →
+      extended : (k : ℕ) → i < k → (m : Result (List E) F) → checked_append b n.base (take k n.log) (drop (matching_prefix_len b (drop prev.seqno n.log) es) es) ≡ m →
           Has i v e (accept_or_refuse b n x y (prev.seqno + length es) theirs (cut_to k n) m).node
       extended k low (Err why) a = has
       extended k low (Ok log) a =
-          let w = applied_is b (take k n.log) (drop (matching_prefix_len b (drop prev.seqno n.log) es) es) log a (sound_cut b n.log k z.sound) in
-          (ap (λ l. slice_get l i) w.0 ∙ get_left (take k n.log) (drop (matching_prefix_len b (drop prev.seqno n.log) es) es) i e (take_get k n.log i e low has.0), has.1)
+          let w = applied_is b n.base (take k n.log) (drop (matching_prefix_len b (drop prev.seqno n.log) es) es) log a in
+          (ap (λ l. slice_get l i) w ∙ get_left (take k n.log) (drop (matching_prefix_len b (drop prev.seqno n.log) es) es) i e (take_get k n.log i e low has.0), has.1)
 
       merged : Has i v e (merge_entries b x y prev.seqno es (matching_prefix_len b (drop prev.seqno n.log) es) theirs n).node
       merged = by_test Kept (matching_prefix_len b (drop prev.seqno n.log) es == length es) (accept_entries b x y (prev.seqno + length es) theirs n) rest
           (λ d. has)
           (λ d. by_test Kept (nat_lt (prev.seqno + matching_prefix_len b (drop prev.seqno n.log) es) (length n.log) && nat_lt (prev.seqno + matching_prefix_len b (drop prev.seqno n.log) es) n.commit)
           (outcome.refuse n (outcome.BelowCommit n.commit (prev.seqno + matching_prefix_len b (drop prev.seqno n.log) es)))
-          (accept_or_refuse b n x y (prev.seqno + length es) theirs (cut_to (prev.seqno + matching_prefix_len b (drop prev.seqno n.log) es) n) (checked_append b (take (prev.seqno + matching_prefix_len b (drop prev.seqno n.log) es) n.log) (drop (matching_prefix_len b (drop prev.seqno n.log) es) es)))
+          (accept_or_refuse b n x y (prev.seqno + length es) theirs (cut_to (prev.seqno + matching_prefix_len b (drop prev.seqno n.log) es) n) (checked_append b n.base (take (prev.seqno + matching_prefix_len b (drop prev.seqno n.log) es) n.log) (drop (matching_prefix_len b (drop prev.seqno n.log) es) es)))
           (λ f. has)
           (λ f. extended (prev.seqno + matching_prefix_len b (drop prev.seqno n.log) es) (cut_above (prev.seqno + matching_prefix_len b (drop prev.seqno n.log) es) refl (grind (arith, nat_tests)) f)
-          (checked_append b (take (prev.seqno + matching_prefix_len b (drop prev.seqno n.log) es) n.log) (drop (matching_prefix_len b (drop prev.seqno n.log) es) es)) refl))
+          (checked_append b n.base (take (prev.seqno + matching_prefix_len b (drop prev.seqno n.log) es) n.log) (drop (matching_prefix_len b (drop prev.seqno n.log) es) es)) refl))
         where
           Kept : Step E A F → Type 0
           Kept step = Has i v e step.node
@@ -127,7 +126,7 @@ module _ {E Q G R A F : Type 0} {b : Book E Q G R A F} {s : Start E} (o : IsOpen
           rest =
               if nat_lt (prev.seqno + matching_prefix_len b (drop prev.seqno n.log) es) (length n.log) && nat_lt (prev.seqno + matching_prefix_len b (drop prev.seqno n.log) es) n.commit
               then outcome.refuse n (outcome.BelowCommit n.commit (prev.seqno + matching_prefix_len b (drop prev.seqno n.log) es))
-              else accept_or_refuse b n x y (prev.seqno + length es) theirs (cut_to (prev.seqno + matching_prefix_len b (drop prev.seqno n.log) es) n) (checked_append b (take (prev.seqno + matching_prefix_len b (drop prev.seqno n.log) es) n.log) (drop (matching_prefix_len b (drop prev.seqno n.log) es) es))
+              else accept_or_refuse b n x y (prev.seqno + length es) theirs (cut_to (prev.seqno + matching_prefix_len b (drop prev.seqno n.log) es) n) (checked_append b n.base (take (prev.seqno + matching_prefix_len b (drop prev.seqno n.log) es) n.log) (drop (matching_prefix_len b (drop prev.seqno n.log) es) es))
 
       followed : Has i v e (merge_if_matching {A = A} {F = F} b x y prev es theirs n).node
       followed = by_test (λ (step : Step E A F). Has i v e step.node) ((prev.seqno == 0) || (nat_le prev.seqno (length n.log) && (view_at b n.log prev.seqno == prev.view)))

@@ -26,7 +26,7 @@ use Rattle.gl_rules.specs.Replication.{update_match, lower_next, may_commit}
 module _ {E Q G R A F : Type 0} {b : Book E Q G R A F} {s : Start E} (o : IsOpening b (EachFollows b) s) (la : IsLawful b (EachFollows b)) where
   -- a leader's log grows by an entry of its view
   module _ (x : NodeId) (g : Story E) (n : Node E) (e : E) (t : Tale o g) (z : Good o g x n) (rules : n.role ≡ Leader) (view_is : b.view_of e ≡ n.view)
-      (follows : b.breaks n.log e ≡ None) (records : b.is_signature e ≡ true → b.recorded_commit e ≡ n.commit)
+      (follows : b.breaks 0 n.log e ≡ None) (records : b.is_signature e ≡ true → b.recorded_commit e ≡ n.commit)
       (unmarked : (y : NodeId) (m q : ℕ) → b.mark (n.log ++ e ∷ []) y ≡ Some m → b.removal n.log y ≡ Some q → (b.mark n.log y ≡ Some m) ⊎ (q ≤ n.commit)) where
     won : g.chief n.view ≡ Some x
     won = z.voter.chief_is rules
@@ -97,16 +97,16 @@ module _ {E Q G R A F : Type 0} {b : Book E Q G R A F} {s : Start E} (o : IsOpen
         ))
         (get_push n.log e i f a)
 
-    follows_here : (i : ℕ) (f : E) → slice_get (n.log ++ e ∷ []) i ≡ Some f → b.breaks (take i (n.log ++ e ∷ [])) f ≡ None
+    follows_here : (i : ℕ) (f : E) → slice_get (n.log ++ e ∷ []) i ≡ Some f → b.breaks 0 (take i (n.log ++ e ∷ [])) f ≡ None
     follows_here i f a = ⊎_elim
         (λ (q : slice_get n.log i ≡ Some f).
         let cut : take i n.log ≡ take i (n.log ++ e ∷ []) = same_take i n.log (n.log ++ e ∷ []) (omega (arith, within n.log i f q)) (λ j y d w. pushed j y w) in
-        let r : b.breaks (take i (g.led n.view)) f ≡ None = t.follows n.view i f (ap (λ l. slice_get l i) (sym mine) ∙ q) in
-        ap (λ l. b.breaks l f) (sym cut) ∙ ap (λ l. b.breaks (take i l) f) mine ∙ r)
+        let r : b.breaks 0 (take i (g.led n.view)) f ≡ None = t.follows n.view i f (ap (λ l. slice_get l i) (sym mine) ∙ q) in
+        ap (λ l. b.breaks 0 l f) (sym cut) ∙ ap (λ l. b.breaks 0 (take i l) f) mine ∙ r)
         (λ (q : (i ≡ length n.log) × (f ≡ e)).
         let cut : take i n.log ≡ take i (n.log ++ e ∷ []) = same_take i n.log (n.log ++ e ∷ []) (omega (arith, q.0)) (λ j y d w. pushed j y w) in
         let all : take i n.log ≡ n.log = ap (λ k. take k n.log) q.0 ∙ take_whole n.log in
-        ap (λ l. b.breaks l f) (sym cut ∙ all) ∙ ap (b.breaks n.log) q.1 ∙ follows)
+        ap (λ l. b.breaks 0 l f) (sym cut ∙ all) ∙ ap (b.breaks 0 n.log) q.1 ∙ follows)
         (get_push n.log e i f a)
 
     sound : EachFollows b (n.log ++ e ∷ [])
@@ -208,7 +208,7 @@ module _ {E Q G R A F : Type 0} {b : Book E Q G R A F} {s : Start E} (o : IsOpen
       marks = λ u. at_led (MarksKnown b) u marks_here (t.marks u);
     }
       where
-        follows_at : (u i : ℕ) (f : E) (m : Bool) → slice_get (if m then n.log ++ e ∷ [] else g.led u) i ≡ Some f → b.breaks (take i (if m then n.log ++ e ∷ [] else g.led u)) f ≡ None
+        follows_at : (u i : ℕ) (f : E) (m : Bool) → slice_get (if m then n.log ++ e ∷ [] else g.led u) i ≡ Some f → b.breaks 0 (take i (if m then n.log ++ e ∷ [] else g.led u)) f ≡ None
         follows_at u i f true a = follows_here i f a
         follows_at u i f false a = t.follows u i f a
 

@@ -167,7 +167,7 @@ module _ {E Q G R A F : Type 0} {b : Book E Q G R A F} {Kind : E → Type 0} (ma
 
   finish_leaves : (len cuts : ℕ) (reads : R) (q : Q) (n : Node E) → Has n → Leaves (finish b len cuts reads q n)
   unfolding finish
-  finish_leaves len cuts reads q n h = leads n (finish_as_leader b len cuts reads q n) h (go (not (n.cuts == cuts) || (n.cuts == last_count)) (b.conflict n.log len reads))
+  finish_leaves len cuts reads q n h = leads n (finish_as_leader b len cuts reads q n) h (go (not (n.cuts == cuts) || (n.cuts == last_count)) (b.conflict n.base n.log len reads))
     where
       go : (m : Bool) (c : Option F) → Leaves (if m then outcome.refuse n (outcome.RolledBack cuts n.cuts) else unless_conflict b c n (execute_request b q n))
       go true c = kept n (outcome.Refused (outcome.RolledBack cuts n.cuts)) h
@@ -232,12 +232,12 @@ module _ {E Q G R A F : Type 0} {b : Book E Q G R A F} {Kind : E → Type 0} (ma
       out : (suffix : ℕ) → Leaves (record { node = n; sent = append_message b x y suffix n ∷ []; outcome = outcome.Done })
       out suffix = reports n (append_message b x y suffix n) outcome.Done (λ i e a. each_dropped Kind suffix n.log h i e (in_batch b (drop suffix n.log) i e a)) h
 
-  appended : (log es r : List E) → checked_append b log es ≡ Ok r → EachIs Kind log → EachIs Kind es → EachIs Kind r
+  appended : (base : ℕ) (log es r : List E) → checked_append b base log es ≡ Ok r → EachIs Kind log → EachIs Kind es → EachIs Kind r
   unfolding checked_append
-  appended log [] r a h p = let q : log ≡ r = cc in subst (EachIs Kind) q h
-  appended log (e ∷ es) r a h p = go (b.breaks log e) a (appended (log ++ e ∷ []) es r)
+  appended base log [] r a h p = let q : log ≡ r = cc in subst (EachIs Kind) q h
+  appended base log (e ∷ es) r a h p = go (b.breaks base log e) a (appended base (log ++ e ∷ []) es r)
     where
-      go : (m : Option F) → unless_broken b m (checked_append b (log ++ e ∷ []) es) ≡ Ok r → (checked_append b (log ++ e ∷ []) es ≡ Ok r → EachIs Kind (log ++ e ∷ []) → EachIs Kind es → EachIs Kind r) → EachIs Kind r
+      go : (m : Option F) → unless_broken b m (checked_append b base (log ++ e ∷ []) es) ≡ Ok r → (checked_append b base (log ++ e ∷ []) es ≡ Ok r → EachIs Kind (log ++ e ∷ []) → EachIs Kind es → EachIs Kind r) → EachIs Kind r
       go None d again = again d (each_joined Kind log (e ∷ []) h (each_first Kind e [] (p 0 e refl) (each_none Kind))) (λ i x c. p (suc i) x c)
       go (Some why) d again = absurd (cc)
 
@@ -245,19 +245,19 @@ module _ {E Q G R A F : Type 0} {b : Book E Q G R A F} {Kind : E → Type 0} (ma
     accepts : (seqno : ℕ) (n : Node E) → Has n → Leaves (accept_entries b x y seqno theirs n)
     accepts seqno n h = record { log = h; sent = each_first (Carries Kind) (record { sender = x; receiver = y; view = n.view; body = AppendReply true seqno }) [] tt (each_none (Carries Kind)) }
 
-    extends : (held : ℕ) (n : Node E) (m : Result (List E) F) → checked_append b (take (prev.seqno + held) n.log) (drop held es) ≡ m → Has n →
+    extends : (held : ℕ) (n : Node E) (m : Result (List E) F) → checked_append b n.base (take (prev.seqno + held) n.log) (drop held es) ≡ m → Has n →
         Leaves (accept_or_refuse b n x y (prev.seqno + length es) theirs (cut_to (prev.seqno + held) n) m)
     extends held n (Err why) d h = kept n (outcome.Refused (outcome.ByLedger why)) h
     extends held n (Ok log) d h = accepts (prev.seqno + length es) (record (cut_to (prev.seqno + held) n) { log = log })
-        (appended (take (prev.seqno + held) n.log) (drop held es) log d (each_taken Kind (prev.seqno + held) n.log h) (each_dropped Kind held es carried))
+        (appended n.base (take (prev.seqno + held) n.log) (drop held es) log d (each_taken Kind (prev.seqno + held) n.log h) (each_dropped Kind held es carried))
 
     merges : (held : ℕ) (n : Node E) → Has n → Leaves (merge_entries b x y prev.seqno es held theirs n)
     merges held n h = go (held == length es) (nat_lt (prev.seqno + held) (length n.log) && nat_lt (prev.seqno + held) n.commit)
       where
-        go : (s t : Bool) → Leaves (if s then accept_entries b x y (prev.seqno + length es) theirs n else (if t then outcome.refuse n (outcome.BelowCommit n.commit (prev.seqno + held)) else accept_or_refuse b n x y (prev.seqno + length es) theirs (cut_to (prev.seqno + held) n) (checked_append b (take (prev.seqno + held) n.log) (drop held es))))
+        go : (s t : Bool) → Leaves (if s then accept_entries b x y (prev.seqno + length es) theirs n else (if t then outcome.refuse n (outcome.BelowCommit n.commit (prev.seqno + held)) else accept_or_refuse b n x y (prev.seqno + length es) theirs (cut_to (prev.seqno + held) n) (checked_append b n.base (take (prev.seqno + held) n.log) (drop held es))))
         go true t = accepts (prev.seqno + length es) n h
         go false true = kept n (outcome.Refused (outcome.BelowCommit n.commit (prev.seqno + held))) h
-        go false false = extends held n (checked_append b (take (prev.seqno + held) n.log) (drop held es)) refl h
+        go false false = extends held n (checked_append b n.base (take (prev.seqno + held) n.log) (drop held es)) refl h
 
     replies : (seqno : ℕ) (n : Node E) → Has n → Leaves (record { node = n; sent = append_reply b x y false seqno n; outcome = outcome.Done })
     replies seqno n h = reports n (record { sender = x; receiver = y; view = n.view; body = AppendReply false seqno }) outcome.Done tt h

@@ -45,9 +45,9 @@ module _ {E Q G R A F : Type 0} {b : Book E Q G R A F} {s : Start E} (o : IsOpen
   pub reached_finish : (x : NodeId) (len cuts : ℕ) (reads : R) (q : Q) (g : Story E) (n : Node E) → Tale o g → Good o g x n → By o la x g (finish b len cuts reads q n)
   unfolding finish
   reached_finish x len cuts reads q g n t z = reached_leader o la x g n (finish_as_leader b len cuts reads q n) t z
-      (λ r. by_test (By o la x g) (not (n.cuts == cuts) || (n.cuts == last_count)) (refuse n (RolledBack cuts n.cuts)) (unless_conflict b (b.conflict n.log len reads) n (execute_request b q n))
+      (λ r. by_test (By o la x g) (not (n.cuts == cuts) || (n.cuts == last_count)) (refuse n (RolledBack cuts n.cuts)) (unless_conflict b (b.conflict n.base n.log len reads) n (execute_request b q n))
       (λ d. stay o la x g n t z)
-      (λ d. go r (b.conflict n.log len reads)))
+      (λ d. go r (b.conflict n.base n.log len reads)))
     where
       go : n.role ≡ Leader → (m : Option F) → By o la x g (unless_conflict b m n (execute_request b q n))
       go r None = executes_by x q g n t z r

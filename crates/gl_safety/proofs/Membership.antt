@@ -116,7 +116,7 @@ module _ {E Q G R A F : Type 0} (b : Book E Q G R A F) (x : NodeId) where
       (merge_entries b x y prev.seqno es (matching_prefix_len b (drop prev.seqno n.log) es) theirs n)
       (record { node = n; sent = append_reply b x y false (highest_possible_match b n.log prev.view (min (prev.seqno - 1) (length n.log))) n; outcome = outcome.Done })
       (λ d. go (matching_prefix_len b (drop prev.seqno n.log) es) (matching_prefix_len b (drop prev.seqno n.log) es == length es) (nat_lt (prev.seqno + matching_prefix_len b (drop prev.seqno n.log) es) (length n.log) && nat_lt (prev.seqno + matching_prefix_len b (drop prev.seqno n.log) es) n.commit)
-      (checked_append b (take (prev.seqno + matching_prefix_len b (drop prev.seqno n.log) es) n.log) (drop (matching_prefix_len b (drop prev.seqno n.log) es) es)))
+      (checked_append b n.base (take (prev.seqno + matching_prefix_len b (drop prev.seqno n.log) es) n.log) (drop (matching_prefix_len b (drop prev.seqno n.log) es) es)))
       (λ d. r)
     where
       go : (held : ℕ) (p q : Bool) (m : Result (List E) F) → (if p then accept_entries {A = A} {F = F} b x y (prev.seqno + length es) theirs n else (if q then outcome.refuse n (outcome.BelowCommit n.commit (prev.seqno + held)) else accept_or_refuse b n x y (prev.seqno + length es) theirs (cut_to (prev.seqno + held) n) m)).node.role ≡ Follower

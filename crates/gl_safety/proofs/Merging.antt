@@ -4,9 +4,8 @@ use Rattle.std.proofs.lemmas.Bool.{cases_eq, cases_lt}
 use Rattle.std.proofs.lemmas.Bool.Decides.{nat_tests}
 use Rattle.gl_rules.specs.Book.{Book}
 use Rattle.gl_rules.specs.Safety.{EachFollows}
-use Rattle.gl_rules.proofs.Lists.{Same, there, within, get_take, drop_get, get_append, append_none, push_append}
+use Rattle.gl_rules.proofs.Lists.{Same, same_take, there, within, get_take, drop_get, get_append, append_none, push_append}
 use Rattle.gl_safety.proofs.Facts.{Matches}
-use Rattle.gl_rules.proofs.Soundness.{sound_push}
 use Rattle.gl_rules.specs.Replication.{matching_prefix_len, unless_broken, checked_append}
 
 module _ {E Q G R A F : Type 0} (b : Book E Q G R A F) where
@@ -56,14 +55,26 @@ module _ {E Q G R A F : Type 0} (b : Book E Q G R A F) where
           let r : b.view_of c ≢ b.view_of d = grind (arith, nat_tests) in
           λ (w : b.view_of e ≡ b.view_of f). r (ap b.view_of p ∙ w ∙ sym (ap b.view_of q))
 
-  pub applied_is : (l es r : List E) → checked_append b l es ≡ Ok r → EachFollows b l → (r ≡ l ++ es) × EachFollows b r
+  -- what is appended, whatever of the log came by a snapshot
+  pub applied_is : (base : ℕ) (l es r : List E) → checked_append b base l es ≡ Ok r → r ≡ l ++ es
   unfolding checked_append
-  applied_is l [] r a z = let q : l ≡ r = cc in (sym q ∙ sym (append_none l), subst (EachFollows b) q z)
-  applied_is l (e ∷ es) r a z = go (b.breaks l e) refl a (applied_is (l ++ e ∷ []) es r)
+  applied_is base l [] r a = let q : l ≡ r = cc in sym q ∙ sym (append_none l)
+  applied_is base l (e ∷ es) r a = go (b.breaks base l e) a (applied_is base (l ++ e ∷ []) es r)
     where
-      go : (m : Option F) → b.breaks l e ≡ m → unless_broken b m (checked_append b (l ++ e ∷ []) es) ≡ Ok r → (checked_append b (l ++ e ∷ []) es ≡ Ok r → EachFollows b (l ++ e ∷ []) → (r ≡ (l ++ e ∷ []) ++ es) × EachFollows b r) → (r ≡ l ++ e ∷ es) × EachFollows b r
-      go None d w again = let y = again w (sound_push b l e z d) in (y.0 ∙ push_append l e es, y.1)
-      go (Some why) d w again = absurd (cc)
+      go : (m : Option F) → unless_broken b m (checked_append b base (l ++ e ∷ []) es) ≡ Ok r → (checked_append b base (l ++ e ∷ []) es ≡ Ok r → r ≡ (l ++ e ∷ []) ++ es) → r ≡ l ++ e ∷ es
+      go None w again = again w ∙ push_append l e es
+      go (Some why) w again = absurd (cc)
+
+  -- where each entry of l and of m may follow, so may each of l after it took entries of m: in m they
+  -- stand behind the same ones
+  pub merged_follows : (l m : List E) (n : ℕ) (r : List E) → Merged l m n r → EachFollows b l → EachFollows b m → EachFollows b r
+  merged_follows l m n r g y z = ⊎_elim
+      (λ (q : r ≡ l). subst (EachFollows b) (sym q) y)
+      (λ (q : ((j : ℕ) (f : E) → slice_get r j ≡ Some f → slice_get m j ≡ Some f) × (d : ℕ) × (d < n) × ((e f : E) → slice_get l d ≡ Some e → slice_get m d ≡ Some f → b.view_of e ≢ b.view_of f)).
+      λ i e a.
+      let cut : take i r ≡ take i m = same_take i r m (omega (arith, within r i e a)) (λ j f h c. q.0 j f c) in
+      ap (λ k. b.breaks 0 k e) cut ∙ z i e (q.0 i e a))
+      g.way
 
   -- the leader's log m has es after p, and l is m up to p
   module _ (led : ℕ → List E) (l m es : List E) (p : ℕ) (ml : Matches b led l) (mm : Matches b led m) (short : p ≤ length l) (prefix : Same p l m) (items : (i k : ℕ) (e : E) → k ≡ p + i → slice_get es i ≡ Some e → slice_get m k ≡ Some e) where

@@ -86,19 +86,19 @@ module _ {E Q G R A F : Type 0} {b : Book E Q G R A F} {s : Start E} (o : IsOpen
   propose_fine n x view k = by_test (Fine n) (nat_lt view k.view) (outcome.idle k) (timeout b x k) (λ d. tt) (λ d. timeout_fine n x k)
 
   -- entries of a leader's log follow one another
-  applied_fine : (m l es : List E) (k : ℕ) (why : F) → EachFollows b m → l ≡ take k m → ((i j : ℕ) (e : E) → j ≡ k + i → slice_get es i ≡ Some e → slice_get m j ≡ Some e) → checked_append b l es ≡ Err why → ⊥
+  applied_fine : (base : ℕ) (m l es : List E) (k : ℕ) (why : F) → EachFollows b m → l ≡ take k m → ((i j : ℕ) (e : E) → j ≡ k + i → slice_get es i ≡ Some e → slice_get m j ≡ Some e) → checked_append b base l es ≡ Err why → ⊥
   unfolding checked_append
-  applied_fine m l [] k why f q items a = cc
-  applied_fine m l (e ∷ es) k why f q items a = go (b.breaks l e) follows a
-      (applied_fine m (l ++ e ∷ []) es (suc k) why f (ap (λ r. r ++ e ∷ []) q ∙ take_one_more m k e at_k) (λ i j d z c. items (suc i) j d (omega arith) c))
+  applied_fine base m l [] k why f q items a = cc
+  applied_fine base m l (e ∷ es) k why f q items a = go (b.breaks base l e) follows a
+      (applied_fine base m (l ++ e ∷ []) es (suc k) why f (ap (λ r. r ++ e ∷ []) q ∙ take_one_more m k e at_k) (λ i j d z c. items (suc i) j d (omega arith) c))
     where
       at_k : slice_get m k ≡ Some e
       at_k = items 0 k e (omega arith) refl
 
-      follows : b.breaks l e ≡ None
-      follows = ap (λ r. b.breaks r e) q ∙ f k e at_k
+      follows : b.breaks base l e ≡ None
+      follows = la.weaker l e base (ap (λ r. b.breaks 0 r e) q ∙ f k e at_k)
 
-      go : (w : Option F) → w ≡ None → unless_broken b w (checked_append b (l ++ e ∷ []) es) ≡ Err why → (checked_append b (l ++ e ∷ []) es ≡ Err why → ⊥) → ⊥
+      go : (w : Option F) → w ≡ None → unless_broken b w (checked_append b base (l ++ e ∷ []) es) ≡ Err why → (checked_append b base (l ++ e ∷ []) es ≡ Err why → ⊥) → ⊥
       go None d u again = again u
       go (Some y) d u again = cc
 
@@ -135,10 +135,10 @@ module _ {E Q G R A F : Type 0} {b : Book E Q G R A F} {s : Start E} (o : IsOpen
               held_ends b (drop prev.seqno n.log) es mine.0 theirs_e.0 (drop_get prev.seqno n.log (matching_prefix_len b (drop prev.seqno n.log) es) k d ∙ mine.1) theirs_e.1 (ap b.view_of same))
               q.1
 
-      extended_fine : (k : ℕ) → k ≡ prev.seqno + matching_prefix_len b (drop prev.seqno n.log) es → (m : Result (List E) F) → checked_append b (take k n.log) (drop (matching_prefix_len b (drop prev.seqno n.log) es) es) ≡ m →
+      extended_fine : (k : ℕ) → k ≡ prev.seqno + matching_prefix_len b (drop prev.seqno n.log) es → (m : Result (List E) F) → checked_append b n.base (take k n.log) (drop (matching_prefix_len b (drop prev.seqno n.log) es) es) ≡ m →
           Fine n (accept_or_refuse b n x y (prev.seqno + length es) theirs (cut_to k n) m)
       extended_fine k d (Ok log) a = tt
-      extended_fine k d (Err why) a = applied_fine (g.led n.view) (take k n.log) (drop (matching_prefix_len b (drop prev.seqno n.log) es) es) k why (t.follows n.view)
+      extended_fine k d (Err why) a = applied_fine n.base (g.led n.view) (take k n.log) (drop (matching_prefix_len b (drop prev.seqno n.log) es) es) k why (t.follows n.view)
           (same_take k n.log (g.led n.view) low (λ j f h c. agreed b g.led n.log (g.led n.view) es prev.seqno z.logged.matches (t.matches n.view) short prefix segment.items j f (omega arith) c))
           (λ i j e c v. segment.items (matching_prefix_len b (drop prev.seqno n.log) es + i) j e (omega arith) (sym (drop_get (matching_prefix_len b (drop prev.seqno n.log) es) es i (matching_prefix_len b (drop prev.seqno n.log) es + i) refl) ∙ v)) a
         where
@@ -156,15 +156,15 @@ module _ {E Q G R A F : Type 0} {b : Book E Q G R A F} {s : Start E} (o : IsOpen
           (λ d. tt)
           (λ d. by_test (Fine n) (nat_lt (prev.seqno + matching_prefix_len b (drop prev.seqno n.log) es) (length n.log) && nat_lt (prev.seqno + matching_prefix_len b (drop prev.seqno n.log) es) n.commit)
           (outcome.refuse n (outcome.BelowCommit n.commit (prev.seqno + matching_prefix_len b (drop prev.seqno n.log) es)))
-          (accept_or_refuse b n x y (prev.seqno + length es) theirs (cut_to (prev.seqno + matching_prefix_len b (drop prev.seqno n.log) es) n) (checked_append b (take (prev.seqno + matching_prefix_len b (drop prev.seqno n.log) es) n.log) (drop (matching_prefix_len b (drop prev.seqno n.log) es) es)))
+          (accept_or_refuse b n x y (prev.seqno + length es) theirs (cut_to (prev.seqno + matching_prefix_len b (drop prev.seqno n.log) es) n) (checked_append b n.base (take (prev.seqno + matching_prefix_len b (drop prev.seqno n.log) es) n.log) (drop (matching_prefix_len b (drop prev.seqno n.log) es) es)))
           (λ e. cut_fine (prev.seqno + matching_prefix_len b (drop prev.seqno n.log) es) refl (grind (arith, nat_tests)) (grind (arith, nat_tests)) (grind (arith, nat_tests)))
-          (λ e. extended_fine (prev.seqno + matching_prefix_len b (drop prev.seqno n.log) es) refl (checked_append b (take (prev.seqno + matching_prefix_len b (drop prev.seqno n.log) es) n.log) (drop (matching_prefix_len b (drop prev.seqno n.log) es) es)) refl))
+          (λ e. extended_fine (prev.seqno + matching_prefix_len b (drop prev.seqno n.log) es) refl (checked_append b n.base (take (prev.seqno + matching_prefix_len b (drop prev.seqno n.log) es) n.log) (drop (matching_prefix_len b (drop prev.seqno n.log) es) es)) refl))
         where
           more : Step E A F
           more =
               if nat_lt (prev.seqno + matching_prefix_len b (drop prev.seqno n.log) es) (length n.log) && nat_lt (prev.seqno + matching_prefix_len b (drop prev.seqno n.log) es) n.commit
               then outcome.refuse n (outcome.BelowCommit n.commit (prev.seqno + matching_prefix_len b (drop prev.seqno n.log) es))
-              else accept_or_refuse b n x y (prev.seqno + length es) theirs (cut_to (prev.seqno + matching_prefix_len b (drop prev.seqno n.log) es) n) (checked_append b (take (prev.seqno + matching_prefix_len b (drop prev.seqno n.log) es) n.log) (drop (matching_prefix_len b (drop prev.seqno n.log) es) es))
+              else accept_or_refuse b n x y (prev.seqno + length es) theirs (cut_to (prev.seqno + matching_prefix_len b (drop prev.seqno n.log) es) n) (checked_append b n.base (take (prev.seqno + matching_prefix_len b (drop prev.seqno n.log) es) n.log) (drop (matching_prefix_len b (drop prev.seqno n.log) es) es))
 
     follows_fine : Fine n (merge_if_matching b x y prev es theirs n)
     follows_fine = by_test (Fine n) ((prev.seqno == 0) || (nat_le prev.seqno (length n.log) && (view_at b n.log prev.seqno == prev.view)))

@@ -17,11 +17,10 @@ use Rattle.gl_safety.proofs.Facts.{Segment, agree}
 use Rattle.gl_safety.proofs.Certificates.{Sured, Tale}
 use Rattle.gl_safety.proofs.Signatures.{view_at_is}
 use Rattle.gl_safety.proofs.Invariants.{Good, BodySent, Reached, made_same}
-use Rattle.gl_rules.proofs.Soundness.{sound_cut}
 use Rattle.gl_rules.specs.Outcome.{Step, Done, quiet, refuse, idle, NotPeer, BelowBase, BelowCommit}
 use Rattle.gl_rules.specs.Replication.{next_of, is_peer, append_message, send_append, replicate, append_reply, matching_prefix_len, checked_append, highest_possible_match, accept_entries, accept_or_refuse, merge_entries, merge_if_matching, become_follower, append_as, on_append, update_match, lower_next, update_progress, append_reply_as, on_append_reply, may_commit, greatest_to_commit, commit_to, advance, restart, snapshot_of, with_snapshot, install_snapshot, install}
 use Rattle.gl_safety.proofs.Batches.{in_batch}
-use Rattle.gl_safety.proofs.Merging.{Merged, merged_all, merged_new, applied_is}
+use Rattle.gl_safety.proofs.Merging.{Merged, merged_all, merged_new, merged_follows, applied_is}
 use Rattle.gl_safety.proofs.Following.{good_follow, good_restart, made_accept}
 use Rattle.gl_safety.proofs.Leading.{good_acknowledged, good_sent_back, committed_tale, committed_good, good_commit}
 use Rattle.gl_safety.proofs.Installing.{good_install}
@@ -77,33 +76,33 @@ module _ {E Q G R A F : Type 0} {b : Book E Q G R A F} {s : Start E} (o : IsOpen
           (λ j f d a. a) z.sound sure_c y
 
       reached_extended : (k : ℕ) → k ≡ prev.seqno + matching_prefix_len b (drop prev.seqno n.log) es → matching_prefix_len b (drop prev.seqno n.log) es ≢ length es → (nat_lt k (length n.log) && nat_lt k n.commit) ≡ false →
-          (m : Result (List E) F) → checked_append b (take k n.log) (drop (matching_prefix_len b (drop prev.seqno n.log) es) es) ≡ m → By o la x g (accept_or_refuse b n x y (prev.seqno + length es) theirs (cut_to k n) m)
+          (m : Result (List E) F) → checked_append b n.base (take k n.log) (drop (matching_prefix_len b (drop prev.seqno n.log) es) es) ≡ m → By o la x g (accept_or_refuse b n x y (prev.seqno + length es) theirs (cut_to k n) m)
       reached_extended k d h safe (Err why) a = stay o la x g n t z
       reached_extended k d h safe (Ok log) a =
-          let w = applied_is b (take k n.log) (drop (matching_prefix_len b (drop prev.seqno n.log) es) es) log a (sound_cut b n.log k z.sound) in
-          made_accept o x g n log (prev.seqno + length es) theirs (cut_to k n).cuts t z follows
-          (subst (Merged b n.log (g.led n.view) (prev.seqno + length es)) (ap (λ i. take i n.log ++ drop (matching_prefix_len b (drop prev.seqno n.log) es) es) (sym d) ∙ sym w.0)
-          (merged_new b g.led n.log (g.led n.view) es prev.seqno z.logged.matches (t.matches n.view) short prefix segment.items h))
+          let w = applied_is b n.base (take k n.log) (drop (matching_prefix_len b (drop prev.seqno n.log) es) es) log a in
+          let taken : Merged b n.log (g.led n.view) (prev.seqno + length es) log = subst (Merged b n.log (g.led n.view) (prev.seqno + length es)) (ap (λ i. take i n.log ++ drop (matching_prefix_len b (drop prev.seqno n.log) es) es) (sym d) ∙ sym w)
+          (merged_new b g.led n.log (g.led n.view) es prev.seqno z.logged.matches (t.matches n.view) short prefix segment.items h) in
+          made_accept o x g n log (prev.seqno + length es) theirs (cut_to k n).cuts t z follows taken
           (λ j f i c. ⊎_elim
-          (λ (q : j < k). ap (λ l. slice_get l j) w.0 ∙ get_left (take k n.log) (drop (matching_prefix_len b (drop prev.seqno n.log) es) es) j f (take_get k n.log j f q c))
+          (λ (q : j < k). ap (λ l. slice_get l j) w ∙ get_left (take k n.log) (drop (matching_prefix_len b (drop prev.seqno n.log) es) es) j f (take_get k n.log j f q c))
           (λ (q : k ≤ j). absurd (let u = within n.log j f c in grind (arith, nat_tests)))
           (cases_lt j k))
-          w.1 sure_c y
+          (merged_follows b n.log (g.led n.view) (prev.seqno + length es) log taken z.sound (t.follows n.view)) sure_c y
 
       reached_merges : By o la x g (merge_entries b x y prev.seqno es (matching_prefix_len b (drop prev.seqno n.log) es) theirs n)
       reached_merges = by_test (By o la x g) (matching_prefix_len b (drop prev.seqno n.log) es == length es) (accept_entries b x y (prev.seqno + length es) theirs n) more
           (λ d. reached_takes (grind (arith, nat_tests)))
           (λ d. by_test (By o la x g) (nat_lt (prev.seqno + matching_prefix_len b (drop prev.seqno n.log) es) (length n.log) && nat_lt (prev.seqno + matching_prefix_len b (drop prev.seqno n.log) es) n.commit)
           (refuse n (BelowCommit n.commit (prev.seqno + matching_prefix_len b (drop prev.seqno n.log) es)))
-          (accept_or_refuse b n x y (prev.seqno + length es) theirs (cut_to (prev.seqno + matching_prefix_len b (drop prev.seqno n.log) es) n) (checked_append b (take (prev.seqno + matching_prefix_len b (drop prev.seqno n.log) es) n.log) (drop (matching_prefix_len b (drop prev.seqno n.log) es) es)))
+          (accept_or_refuse b n x y (prev.seqno + length es) theirs (cut_to (prev.seqno + matching_prefix_len b (drop prev.seqno n.log) es) n) (checked_append b n.base (take (prev.seqno + matching_prefix_len b (drop prev.seqno n.log) es) n.log) (drop (matching_prefix_len b (drop prev.seqno n.log) es) es)))
           (λ e. stay o la x g n t z)
-          (λ e. reached_extended (prev.seqno + matching_prefix_len b (drop prev.seqno n.log) es) refl (grind (arith, nat_tests)) e (checked_append b (take (prev.seqno + matching_prefix_len b (drop prev.seqno n.log) es) n.log) (drop (matching_prefix_len b (drop prev.seqno n.log) es) es)) refl))
+          (λ e. reached_extended (prev.seqno + matching_prefix_len b (drop prev.seqno n.log) es) refl (grind (arith, nat_tests)) e (checked_append b n.base (take (prev.seqno + matching_prefix_len b (drop prev.seqno n.log) es) n.log) (drop (matching_prefix_len b (drop prev.seqno n.log) es) es)) refl))
         where
           more : Step E A F
           more =
               if nat_lt (prev.seqno + matching_prefix_len b (drop prev.seqno n.log) es) (length n.log) && nat_lt (prev.seqno + matching_prefix_len b (drop prev.seqno n.log) es) n.commit
               then refuse n (BelowCommit n.commit (prev.seqno + matching_prefix_len b (drop prev.seqno n.log) es))
-              else accept_or_refuse b n x y (prev.seqno + length es) theirs (cut_to (prev.seqno + matching_prefix_len b (drop prev.seqno n.log) es) n) (checked_append b (take (prev.seqno + matching_prefix_len b (drop prev.seqno n.log) es) n.log) (drop (matching_prefix_len b (drop prev.seqno n.log) es) es))
+              else accept_or_refuse b n x y (prev.seqno + length es) theirs (cut_to (prev.seqno + matching_prefix_len b (drop prev.seqno n.log) es) n) (checked_append b n.base (take (prev.seqno + matching_prefix_len b (drop prev.seqno n.log) es) n.log) (drop (matching_prefix_len b (drop prev.seqno n.log) es) es))
 
     one_prefix : (j : ℕ) (f e : E) → slice_get n.log j ≡ Some f → slice_get (g.led n.view) j ≡ Some e → b.view_of f ≡ b.view_of e → Same (suc j) n.log (g.led n.view)
     one_prefix j f e a c v =

@@ -233,6 +233,7 @@ small_lawful = record {
       subst (λ (f : Entry). Makes small (EachFollows small) log view f × (signs f.kind ≡ false) × MarksNone small log f) (sym r.1)
       (makes log (record { view = view; kind = Evidence }) z r.0, refl, marks_none log (record { view = view; kind = Evidence }) (λ y. refl));
   taken = λ log e z f. sound_push small log e z f;
+  weaker = λ log e base f. f;
   cut = λ log seqno z. sound_cut small log seqno z;
   witnessed = witness;
   removals = places_of (EachFollows small) (λ y e. removes y e.kind);

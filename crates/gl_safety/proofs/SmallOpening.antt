@@ -25,9 +25,9 @@ module _ (nodes : Nodes) where
       (λ (r : (i ≡ 1) × (record { view = 2; kind = Signature 2 } ≡ e)). subst (λ (k : ℕ). P k e) (sym r.0) (subst (P 1) r.1 q))
       (cases i e a)
 
-  follows : (i : ℕ) (e : Entry) → slice_get (opening nodes) i ≡ Some e → small.breaks (take i (opening nodes)) e ≡ None
+  follows : (i : ℕ) (e : Entry) → slice_get (opening nodes) i ≡ Some e → small.breaks 0 (take i (opening nodes)) e ≡ None
   unfolding last_signature
-  follows = by_case (λ i e. small.breaks (take i (opening nodes)) e ≡ None) (ap fault_of (none_yet (members nodes))) refl
+  follows = by_case (λ i e. small.breaks 0 (take i (opening nodes)) e ≡ None) (ap fault_of (none_yet (members nodes))) refl
 
 pub small_opening : (nodes : Nodes) (first : NodeId) → member first (members nodes) ≡ true → IsOpening small (EachFollows small) (start nodes first)
 small_opening nodes first m = record {

@@ -80,7 +80,7 @@ module _ {E Q G R A F : Type 0} (b : Book E Q G R A F) where
 
   finish_keeps : (len cuts : ℕ) (reads : R) (q : Q) (n : Node E) → Keeps n (finish b len cuts reads q n)
   unfolding finish
-  finish_keeps len cuts reads q n = leader_keeps n (finish_as_leader b len cuts reads q n) (go (not (n.cuts == cuts) || (n.cuts == last_count)) (b.conflict n.log len reads))
+  finish_keeps len cuts reads q n = leader_keeps n (finish_as_leader b len cuts reads q n) (go (not (n.cuts == cuts) || (n.cuts == last_count)) (b.conflict n.base n.log len reads))
     where
       go : (m : Bool) (c : Option F) → Keeps n (if m then outcome.refuse n (outcome.RolledBack cuts n.cuts) else unless_conflict b c n (execute_request b q n))
       go true c = λ why e. (refl, refl)

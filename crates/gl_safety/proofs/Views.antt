@@ -84,10 +84,10 @@ module _ {E Q G R A F : Type 0} (b : Book E Q G R A F) where
       held : ℕ
       held = matching_prefix_len b (drop prev.seqno n.log) es
 
-      inner : (p q : Bool) → Up n.view (if p then accept_entries b x y (prev.seqno + length es) theirs n else (if q then outcome.refuse n (outcome.BelowCommit n.commit (prev.seqno + matching_prefix_len b (drop prev.seqno n.log) es)) else accept_or_refuse b n x y (prev.seqno + length es) theirs (cut_to (prev.seqno + matching_prefix_len b (drop prev.seqno n.log) es) n) (checked_append b (take (prev.seqno + matching_prefix_len b (drop prev.seqno n.log) es) n.log) (drop (matching_prefix_len b (drop prev.seqno n.log) es) es))))
+      inner : (p q : Bool) → Up n.view (if p then accept_entries b x y (prev.seqno + length es) theirs n else (if q then outcome.refuse n (outcome.BelowCommit n.commit (prev.seqno + matching_prefix_len b (drop prev.seqno n.log) es)) else accept_or_refuse b n x y (prev.seqno + length es) theirs (cut_to (prev.seqno + matching_prefix_len b (drop prev.seqno n.log) es) n) (checked_append b n.base (take (prev.seqno + matching_prefix_len b (drop prev.seqno n.log) es) n.log) (drop (matching_prefix_len b (drop prev.seqno n.log) es) es))))
       inner true q = omega arith
       inner false true = omega arith
-      inner false false = extended_up n x y (prev.seqno + length es) theirs (cut_to (prev.seqno + matching_prefix_len b (drop prev.seqno n.log) es) n) (checked_append b (take (prev.seqno + matching_prefix_len b (drop prev.seqno n.log) es) n.log) (drop (matching_prefix_len b (drop prev.seqno n.log) es) es)) refl
+      inner false false = extended_up n x y (prev.seqno + length es) theirs (cut_to (prev.seqno + matching_prefix_len b (drop prev.seqno n.log) es) n) (checked_append b n.base (take (prev.seqno + matching_prefix_len b (drop prev.seqno n.log) es) n.log) (drop (matching_prefix_len b (drop prev.seqno n.log) es) es)) refl
 
       go : (m : Bool) → Up n.view (if m then merge_entries b x y prev.seqno es (matching_prefix_len b (drop prev.seqno n.log) es) theirs n else record { node = n; sent = append_reply b x y false (highest_possible_match b n.log prev.view (min (prev.seqno - 1) (length n.log))) n; outcome = outcome.Done })
       go true = inner (matching_prefix_len b (drop prev.seqno n.log) es == length es) (nat_lt (prev.seqno + matching_prefix_len b (drop prev.seqno n.log) es) (length n.log) && nat_lt (prev.seqno + matching_prefix_len b (drop prev.seqno n.log) es) n.commit)
@@ -161,7 +161,7 @@ module _ {E Q G R A F : Type 0} (b : Book E Q G R A F) where
 
   pub finish_up : (len cuts : ℕ) (reads : R) (q : Q) (n : Node E) → Up n.view (finish b len cuts reads q n)
   unfolding finish
-  finish_up len cuts reads q n = led_up n (finish_as_leader b len cuts reads q n) (go (not (n.cuts == cuts) || (n.cuts == last_count)) (b.conflict n.log len reads))
+  finish_up len cuts reads q n = led_up n (finish_as_leader b len cuts reads q n) (go (not (n.cuts == cuts) || (n.cuts == last_count)) (b.conflict n.base n.log len reads))
     where
       go : (m : Bool) (c : Option F) → Up n.view (if m then outcome.refuse n (outcome.RolledBack cuts n.cuts) else unless_conflict b c n (execute_request b q n))
       go true c = omega arith

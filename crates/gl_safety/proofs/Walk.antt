@@ -153,7 +153,7 @@ module _ {E Q G R A F : Type 0} (b : Book E Q G R A F) (x : NodeId) (P : Node E 
 
   finish_keeps : (len cuts : ℕ) (reads : R) (q : Q) (n : Node E) → P n → After (finish b len cuts reads q n)
   unfolding finish
-  finish_keeps len cuts reads q n h = led n (finish_as_leader b len cuts reads q n) h (λ r. go r (not (n.cuts == cuts) || (n.cuts == last_count)) (b.conflict n.log len reads))
+  finish_keeps len cuts reads q n h = led n (finish_as_leader b len cuts reads q n) h (λ r. go r (not (n.cuts == cuts) || (n.cuts == last_count)) (b.conflict n.base n.log len reads))
     where
       go : n.role ≡ Leader → (m : Bool) (c : Option F) → After (if m then outcome.refuse n (outcome.RolledBack cuts n.cuts) else unless_conflict b c n (execute_request b q n))
       go r true c = h

@@ -195,16 +195,16 @@ module _ {E Q G R A F : Type 0} {b : Book E Q G R A F} {s : Start E} (o : IsOpen
             (r.0, sured_grow o grows (g.led u) (at_view g.led n.view n.log u) (grows.led u) (b.recorded_commit e) u r.1))
             (cases_eq u n.view)
 
-        follows_at : (u i : ℕ) (e : E) → slice_get (at_view g.led n.view n.log u) i ≡ Some e → b.breaks (take i (at_view g.led n.view n.log u)) e ≡ None
+        follows_at : (u i : ℕ) (e : E) → slice_get (at_view g.led n.view n.log u) i ≡ Some e → b.breaks 0 (take i (at_view g.led n.view n.log u)) e ≡ None
         follows_at u i e a = go (u == n.view) a
           where
-            mine : slice_get n.log i ≡ Some e → b.breaks (take i n.log) e ≡ None
+            mine : slice_get n.log i ≡ Some e → b.breaks 0 (take i n.log) e ≡ None
             mine a =
                 let r = z.logged.matches.below i i e e a (omega arith) a in
                 let cut : take i n.log ≡ take i (g.led (b.view_of e)) = same_take i n.log (g.led (b.view_of e)) (omega (arith, within n.log i e a)) (λ j y d w. z.logged.matches.below i j e y a (omega arith) w) in
-                ap (λ l. b.breaks l e) cut ∙ t.follows (b.view_of e) i e r
+                ap (λ l. b.breaks 0 l e) cut ∙ t.follows (b.view_of e) i e r
 
-            go : (m : Bool) → slice_get (if m then n.log else g.led u) i ≡ Some e → b.breaks (take i (if m then n.log else g.led u)) e ≡ None
+            go : (m : Bool) → slice_get (if m then n.log else g.led u) i ≡ Some e → b.breaks 0 (take i (if m then n.log else g.led u)) e ≡ None
             go true a = mine a
             go false a = t.follows u i e a
 

@@ -194,7 +194,7 @@ after_mark =
     ∷ record { view = 2; kind = Signature 2 }
     ∷ record { view = 2; kind = Mark one } ∷ []
 
-recorded_after_mark : map (λ commit. small.breaks after_mark (record { view = 2; kind = Signature commit })) (2 ∷ 3 ∷ 4 ∷ 6 ∷ []) ≡
+recorded_after_mark : map (λ commit. small.breaks 0 after_mark (record { view = 2; kind = Signature commit })) (2 ∷ 3 ∷ 4 ∷ 6 ∷ []) ≡
     Some Unfit ∷ Some Unfit ∷ None ∷ Some Unfit ∷ []
 unfolding rules_open
 recorded_after_mark = refl

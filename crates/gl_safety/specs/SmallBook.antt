@@ -130,8 +130,8 @@ bare = record {
   evidence = λ log view. Err Unfit;
   marked_node = marked_by;
   mark_refusal = λ log y. None;
-  conflict = λ log len reads. None;
-  breaks = λ log e. None;
+  conflict = λ base log len reads. None;
+  breaks = λ base log e. None;
 }
 
 -- Whether a node was marked above the last signature, and its removal stands above a commit.
@@ -166,7 +166,7 @@ is_recordable log commit =
 
 -- Whether an entry of this kind may follow: no removed node comes again, a mark stands after its
 -- removal, a signature records a commit that may be recorded, and evidence stands right after a
--- signature.
+-- signature. The same is asked where entries of the log came by a snapshot.
 abbrev pub fits : List Entry → Kind → Bool
 fits log Plain = true
 fits log (Change nodes) = none_removed log (members nodes)
@@ -196,7 +196,7 @@ small = record bare {
       λ log view g. made_if (fits log (kind_of g)) (record { view = view; kind = kind_of g }, 0);
   sign = λ x leaf log view commit. Ok (record { view = view; kind = Signature commit });
   evidence = λ log view. made_if (fits log Evidence) (record { view = view; kind = Evidence });
-  breaks = λ log e. fault_of (fits log e.kind);
+  breaks = λ base log e. fault_of (fits log e.kind);
 }
 
 -- How a service of it begins: the set of trusted nodes, and a signature that records its own seqno.

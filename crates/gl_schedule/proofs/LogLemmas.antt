@@ -35,7 +35,7 @@ unbroken : (o : Option breaches.Broken) → by_rule o ≡ None → o ≡ None
 unbroken None none = refl
 unbroken (Some why) none = absurd (cc)
 
-fits : (s : Settings) (log : List Entry) (e : Entry) → (book_of s).breaks log e ≡ None → is_entry e ≡ true
+fits : (s : Settings) (log : List Entry) (e : Entry) → (book_of s).breaks 0 log e ≡ None → is_entry e ≡ true
 fits s log e none = (passing service_layers log e (unbroken (broken service_layers log e) none)).fits
 
 all_from : {A : Type 0} (P : A → Type 0) (xs : List A) → ((i : ℕ) (x : A) → slice_get xs i ≡ Some x → P x) → AllByRecursion P xs

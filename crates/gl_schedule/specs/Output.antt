@@ -206,6 +206,7 @@ printed_at_start s = record {
 unfoldable pub output_of : Settings → List Line → Output
 output_of s lines = fold (reported s) (printed_at_start s) lines
 
+-- What a schedule prints: all that its lines come to; an empty one prints nothing.
 abbrev pub text_of_schedule : Schedule → List ℕ
 text_of_schedule Empty = []
 text_of_schedule (Service settings lines) = (output_of settings lines).text

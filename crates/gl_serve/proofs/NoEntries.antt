@@ -17,7 +17,7 @@ use Rattle.gl_ledger.specs.LedgerBook.{ServiceBook}
 use Rattle.gl_ledger.specs.declared.response.Rejection.TheVariants.{NoEntry}
 use Rattle.gl_answers.specs.Receipts.{receipts_of}
 use Rattle.gl_election.specs.Bridge.{tx_id}
-use Rattle.gl_receipt.specs.Made.{Ledger, at_seqno, commit_id, committed_entry, entry_at, if_committed, later_signature, receipt_by, receipt_of, status_in}
+use Rattle.gl_receipt.specs.Made.{Ledger, at_seqno, commit_id, above_base, committed_entry, entry_at, if_committed, later_signature, receipt_by, receipt_of, status_in}
 use Rattle.gl_receipt.specs.declared.make_fault.MakeFault.{MakeFault}
 use Rattle.gl_receipt.specs.declared.make_fault.MakeFault.TheVariants.{NotCommitted}
 use Rattle.gl_replication.specs.Holding.{Holding, with_log}
@@ -71,24 +71,24 @@ unfolding last_signature
 no_position = refl
 
 -- no entries are appended, and any entry is refused
-appended_none : checked_append empty_book [] [] ≡ Ok []
+appended_none : checked_append empty_book 0 [] [] ≡ Ok []
 unfolding checked_append
 appended_none = refl
 
 pub replaced : (me : NodeId) {b : ServiceBook} {h : Holding Entry} (seqno : ℕ) (es : List Entry) → (length es == 0) ≡ true → (b ≡ empty_book) × (h ≡ empty_holding me) →
-    (log : List Entry) × (checked_append b (take seqno h.log) es ≡ Ok log) × ((b ≡ empty_book) × (with_log h log ≡ empty_holding me))
+    (log : List Entry) × (checked_append b h.base (take seqno h.log) es ≡ Ok log) × ((b ≡ empty_book) × (with_log h log ≡ empty_holding me))
 replaced me seqno [] none w =
-    whole me (λ b h. (log : List Entry) × (checked_append b (take seqno h.log) [] ≡ Ok log) × ((b ≡ empty_book) × (with_log h log ≡ empty_holding me))) w
-    ([], ap (λ (l : List Entry). checked_append empty_book l []) (none_taken seqno) ∙ appended_none, (refl, refl))
+    whole me (λ b h. (log : List Entry) × (checked_append b h.base (take seqno h.log) [] ≡ Ok log) × ((b ≡ empty_book) × (with_log h log ≡ empty_holding me))) w
+    ([], ap (λ (l : List Entry). checked_append empty_book 0 l []) (none_taken seqno) ∙ appended_none, (refl, refl))
 replaced me seqno (e ∷ es) none w = absurd (omega (arith, eqb-true (length (e ∷ es)) 0 none))
 
-refused_first : (log : List Entry) (e : Entry) (es : List Entry) → checked_append empty_book log (e ∷ es) ≡ Err NoEntry
+refused_first : (log : List Entry) (e : Entry) (es : List Entry) → checked_append empty_book 0 log (e ∷ es) ≡ Err NoEntry
 unfolding checked_append
 refused_first log e es = refl
 
-pub refused : (me : NodeId) {b : ServiceBook} {h : Holding Entry} (seqno : ℕ) (es : List Entry) → (length es == 0) ≡ false → (b ≡ empty_book) × (h ≡ empty_holding me) → checked_append b (take seqno h.log) es ≡ Err NoEntry
+pub refused : (me : NodeId) {b : ServiceBook} {h : Holding Entry} (seqno : ℕ) (es : List Entry) → (length es == 0) ≡ false → (b ≡ empty_book) × (h ≡ empty_holding me) → checked_append b h.base (take seqno h.log) es ≡ Err NoEntry
 refused me seqno [] some w = absurd (cc some)
-refused me seqno (e ∷ es) some w = whole me (λ b h. checked_append b (take seqno h.log) (e ∷ es) ≡ Err NoEntry) w (refused_first (take seqno []) e es)
+refused me seqno (e ∷ es) some w = whole me (λ b h. checked_append b h.base (take seqno h.log) (e ∷ es) ≡ Err NoEntry) w (refused_first (take seqno []) e es)
 
 -- no receipt is given
 none_there : (seqno : ℕ) → at_seqno no_entries seqno ≡ None
@@ -118,4 +118,4 @@ module _ (commit : ℕ) (id : TxId) where
 
   pub no_receipt : receipt_of ledger id ≡ Err (NotCommitted (status_of id None None))
   unfolding receipt_of
-  no_receipt = ap (λ (r : Result Entry MakeFault). r >>= λ e. later_signature ledger id.seqno >>= λ signature. Ok (receipt_by ledger id e signature)) nothing_committed
+  no_receipt = ap (λ (r : Result Entry MakeFault). r >>= λ e. above_base ledger id.seqno >>= λ above. later_signature ledger id.seqno >>= λ signature. Ok (receipt_by ledger id e signature)) nothing_committed

@@ -12,7 +12,7 @@ use Rattle.gl_messages.specs.declared.answer.AnswerBody.TheVariants as content
 use Rattle.gl_receipt.specs.Tree.{receipt_tree}
 use Rattle.gl_receipt.specs.declared.components.Receipt.{Receipt}
 use Rattle.gl_receipt.specs.declared.make_fault.MakeFault.{MakeFault}
-use Rattle.gl_receipt.specs.declared.make_fault.MakeFault.TheVariants.{NotCommitted, NoLaterSignature}
+use Rattle.gl_receipt.specs.declared.make_fault.MakeFault.TheVariants.{NotCommitted, BelowBase, NoLaterSignature}
 use Rattle.gl_replication.specs.declared.done.Outcome as done
 use Rattle.gl_replication.specs.declared.done.Outcome.TheVariants.{Accepted}
 use Rattle.gl_answers.specs.Reasons.{numbers, reason_of, seen_refusal}
@@ -46,9 +46,11 @@ json_answer_body json =
     if is_within json then content.ReceiptIs json
     else reason_answer_body (numbers 119 (length json ∷ []))
 
--- Why there is no receipt: the transaction has this status, or the ledger is committed up to here.
+-- Why there is no receipt: the transaction has this status, its entry isn't above this base, or the
+-- ledger is committed up to here.
 abbrev pub make_reason : MakeFault → Reason
 make_reason (NotCommitted status) = numbers 80 (status_byte status ∷ [])
+make_reason (BelowBase base) = numbers 85 (base ∷ [])
 make_reason (NoLaterSignature commit) = numbers 81 (commit ∷ [])
 
 abbrev pub receipt_answer_body : Result Receipt MakeFault → AnswerBody

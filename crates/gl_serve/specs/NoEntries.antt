@@ -26,8 +26,8 @@ empty_book = record {
   evidence = λ log view. Err NoEvidenceYet;
   marked_node = λ g. None;
   mark_refusal = λ log y. None;
-  conflict = λ log len reads. None;
-  breaks = λ log e. Some NoEntry;
+  conflict = λ base log len reads. None;
+  breaks = λ base log e. Some NoEntry;
 }
 
 -- What a store without an entry holds for a node.

@@ -68,6 +68,7 @@ pub(crate) fn make_reason(alloc: Global, fault: MakeFault) -> Result<Reason, All
         MakeFault::NotCommitted { status } => {
             Reason::numbers(alloc, 80, &[u64::from(status_byte(status))])
         }
+        MakeFault::BelowBase { base } => Reason::numbers(alloc, 85, &[base]),
         MakeFault::NoLaterSignature { commit } => Reason::numbers(alloc, 81, &[commit]),
     }
 }

@@ -11,9 +11,9 @@ use Rattle.gl_entry.specs.declared.entry.Entry.{Entry}
 use Rattle.gl_ledger.specs.declared.breach.Broken.{Broken}
 use Rattle.gl_ledger.specs.NodeKeys.{service_layers}
 use Rattle.gl_ledger.specs.Recordings.{last_entry}
-use Rattle.gl_ledger.specs.Broken.{is_unopened}
 use Rattle.gl_ledger.specs.Sound.{IsSound}
 use Rattle.gl_ledger.specs.Audit.{LedgerFault, audited, fault_from, signer_in, signer_of, opened_where, opened_unless, opened}
+use Rattle.gl_ledger.specs.Past.{is_unopened}
 use Rattle.gl_store.specs.Kept.{Beside, IsKept}
 use Rattle.gl_audit.proofs.LastEntries.{last_at}
 

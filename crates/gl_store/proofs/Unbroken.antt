@@ -12,7 +12,8 @@ use Rattle.gl_requests.specs.declared.request.GovernanceRequest.{GovernanceReque
 use Rattle.gl_ledger.specs.Ledger.{HasViewsUpTo, genesis_entry, governance_entry, execute_result}
 use Rattle.gl_ledger.specs.NodeKeys.{service_layers, NodeKeys}
 use Rattle.gl_ledger.specs.Recordings.{last_entry, requests_of}
-use Rattle.gl_ledger.specs.Broken.{is_unopened, broken}
+use Rattle.gl_ledger.specs.Past.{is_unopened}
+use Rattle.gl_ledger.specs.Broken.{broken}
 use Rattle.gl_requests.specs.declared.genesis.Genesis as founding
 use Rattle.gl_gov_rules.specs.Governed as governance
 use Rattle.gl_gov_rules.specs.Changes.{history}

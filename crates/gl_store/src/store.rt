@@ -3,6 +3,7 @@
 ghost use Rattle.std.specs.Prelude.{◌≡◌, ◌+◌, ◌-◌, ◌≤◌, ◌<◌, [], ◌∷◌, ◌++◌, true, length, take, None, Some, IfOk, IfErr, IfSome, OnErr, OnOk};
 ghost use Rattle.std.specs.List.{AllByRecursion};
 ghost use Rattle.std.specs.Option.{option_copied};
+ghost use Rattle.gl_rules.specs.Log.{entry_at};
 ghost use Rattle.gl_vmaps.specs.Standing.{StandsFor};
 ghost use Rattle.gl_entry.specs.Entry.{is_entry};
 ghost use Rattle.gl_requests.specs.Ranges.{is_genesis};
@@ -36,6 +37,16 @@ pub struct Store {
     alloc: Global,
 }
 
+/// The entry with a seqno among entries from seqno 1 on.
+fn entry_in(entries: &[Entry], seqno: u64) -> Option<&Entry>
+    ensures { option_copied result ≡ entry_at entries.now seqno }
+{
+    match seqno.checked_sub(1) {
+        None => None,
+        Some(index) => entries.get(index as usize),
+    }
+}
+
 impl Model for Store {
     ghost use Rattle.gl_audit.specs.Committed.{Held};
     ghost use Rattle.gl_store.specs.Kept.{IsKept};
@@ -51,7 +62,6 @@ impl Model for Store {
 }
 
 impl Store {
-    ghost use Rattle.gl_rules.specs.Log.{entry_at};
     ghost use Rattle.gl_rules.specs.Node.{Node};
     ghost use Rattle.gl_rules.specs.Safety.{reported_status, view_of};
     ghost use Rattle.gl_gov_rules.specs.History.{no_history};
@@ -59,7 +69,8 @@ impl Store {
     ghost use Rattle.gl_merkle.specs.Tree.{root_of};
     ghost use Rattle.gl_ledger.specs.Tree.{writes_of, leaves_of};
     ghost use Rattle.gl_ledger.specs.Recordings.{last_entry, requests_of};
-    ghost use Rattle.gl_ledger.specs.Broken.{is_unopened, last_signed, last_commit, broken};
+    ghost use Rattle.gl_ledger.specs.Past.{is_unopened, last_commit, last_signed};
+    ghost use Rattle.gl_ledger.specs.Broken.{broken};
     ghost use Rattle.gl_ledger.specs.Sound.{IsSound};
     ghost use Rattle.gl_ledger.specs.Audit.{audited, fault_from};
     ghost use Rattle.gl_ledger.specs.Layers.{Layers};
@@ -153,10 +164,7 @@ impl Store {
         ensures fits { IfSome result (λ e. is_entry e.now ≡ true) }
         ensures numbered { IfSome result (λ e. e.now.seqno ≡ seqno) }
     {
-        match seqno.checked_sub(1) {
-            None => None,
-            Some(index) => self.entries.get(index as usize),
-        }
+        entry_in(&self.entries, seqno)
     }
 
     /// All entries, in order.

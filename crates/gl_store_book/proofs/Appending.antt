@@ -24,19 +24,19 @@ module _ (keys : NodeKeys) where
   book = ledger_book service_layers keys
 
   -- one that breaks no rule is appended
-  pub appended_next : (log : List Entry) (e : Entry) (es : List Entry) → broken service_layers log e ≡ None → checked_append book log (e ∷ es) ≡ checked_append book (log ++ e ∷ []) es
+  pub appended_next : (log : List Entry) (e : Entry) (es : List Entry) → broken service_layers log e ≡ None → checked_append book 0 log (e ∷ es) ≡ checked_append book 0 (log ++ e ∷ []) es
   unfolding checked_append
-  appended_next log e es h = ap (λ (o : Option Broken). rules.unless_broken book (by_rule o) (checked_append book (log ++ e ∷ []) es)) h
+  appended_next log e es h = ap (λ (o : Option Broken). rules.unless_broken book (by_rule o) (checked_append book 0 (log ++ e ∷ []) es)) h
 
-  pub appended_none : (log : List Entry) → checked_append book log [] ≡ Ok log
+  pub appended_none : (log : List Entry) → checked_append book 0 log [] ≡ Ok log
   unfolding checked_append
   appended_none log = refl
 
   -- one that breaks a rule is refused for it
-  pub refused_next : (log : List Entry) (e : Entry) (es : List Entry) (r : OrNoMemory Rejection) → RefusesFor (broken service_layers log e) r → Fails r (checked_append book log (e ∷ es))
+  pub refused_next : (log : List Entry) (e : Entry) (es : List Entry) (r : OrNoMemory Rejection) → RefusesFor (broken service_layers log e) r → Fails r (checked_append book 0 log (e ∷ es))
   unfolding checked_append
   refused_next log e es NoMemory h = tt
-  refused_next log e es (Fault why) h = ap (λ (o : Option Rejection). rules.unless_broken book o (checked_append book (log ++ e ∷ []) es)) h
+  refused_next log e es (Fault why) h = ap (λ (o : Option Rejection). rules.unless_broken book o (checked_append book 0 (log ++ e ∷ []) es)) h
 
   -- a signature after an entry, where a seqno is left
   pub signing_made : (x : NodeId) (leaf : ℕ) (ledger : List Entry) (view commit : ℕ) → 0 < length ledger → length ledger < last_seqno →

@@ -10,8 +10,8 @@ use Rattle.gl_entry.specs.declared.entry.Content.TheVariants as content
 use Rattle.gl_entry.specs.declared.entry.Entry.{Entry}
 use Rattle.gl_ledger.specs.NodeKeys.{NodeKeys, service_layers}
 use Rattle.gl_ledger.specs.LedgerBook.{ServiceBook, by_rule, ledger_book}
-use Rattle.gl_ledger.specs.Broken.{commit_after, commit_from, last_commit, last_signed}
 use Rattle.gl_ledger.specs.Audit.{audited}
+use Rattle.gl_ledger.specs.Past.{commit_after, commit_from, last_commit, last_signed}
 use Rattle.gl_ledger.proofs.Auditing.{audited_none}
 use Rattle.gl_ledger.proofs.Commits.{commits_kept}
 use Rattle.gl_audit.proofs.KeptLedgers.{next_seqno}

@@ -16,7 +16,7 @@ use Rattle.gl_gov_rules.specs.Changes.{history}
 use Rattle.gl_gov_rules.specs.Governed.{up_to}
 use Rattle.gl_gov_rules.specs.Rising.{IsRising}
 use Rattle.gl_gov_rules.proofs.CutLists.{requests_above, requests_split}
-use Rattle.gl_gov_rules.proofs.HistoryLists.{requests_of}
+use Rattle.gl_gov_rules.proofs.NothingCarried.{nodes_of_requests}
 
 -- what passes a test, where all of it stands first
 prefix : {X : Type 0} (p : X → Bool) (xs rest : List X) → xs ≡ filter p xs ++ rest → take (count_by p xs) xs ≡ filter p xs
@@ -78,12 +78,10 @@ abbrev count : ℕ → List RecordedNode → ℕ
 count upto ns = count_by (λ (n : RecordedNode). nat_le n.seqno upto) ns
 
 pub nodes_prefix : (upto : ℕ) (rs : List Recorded) → IsRising rs → take (count upto (nodes (history rs))) (nodes (history rs)) ≡ nodes (history (up_to upto rs))
-unfolding nodes
 nodes_prefix upto rs rising =
-    let same : (history rs).requests ≡ rs = requests_of rs in
-    ap (λ (qs : List Recorded). take (count upto (flat_map nodes_in qs)) (flat_map nodes_in qs)) same
+    ap (λ (ns : List RecordedNode). take (count upto ns) ns) (nodes_of_requests rs)
     ∙ nodes_left upto rs rising
-    ∙ ap (λ (qs : List Recorded). flat_map nodes_in qs) (sym (requests_of (up_to upto rs)))
+    ∙ sym (nodes_of_requests (up_to upto rs))
 
 -- so their identifiers do too
 map-taken : {A B : Type 0} (f : A → B) (n : ℕ) (xs : List A) → take n (map f xs) ≡ map f (take n xs)

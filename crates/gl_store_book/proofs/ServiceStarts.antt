@@ -17,7 +17,8 @@ use Rattle.gl_entry.specs.declared.fault.EntryFault.{EntryFault}
 use Rattle.gl_entry.proofs.EntryLaws.{length-frame_bytes}
 use Rattle.gl_entry.proofs.NextEntries.{next_failed}
 use Rattle.gl_ledger.specs.Audit.{LedgerFault, IsFaultOf, audited, signer_of, opened_where, opened_unless, opened}
-use Rattle.gl_ledger.specs.Broken.{broken, is_unopened}
+use Rattle.gl_ledger.specs.Past.{is_unopened}
+use Rattle.gl_ledger.specs.Broken.{broken}
 use Rattle.gl_ledger.specs.NodeKeys.{service_layers}
 use Rattle.gl_ledger.specs.Recordings.{last_entry, trusted_nodes}
 use Rattle.gl_ledger.specs.declared.breach.Broken.{Broken}

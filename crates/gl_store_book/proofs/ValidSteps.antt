@@ -125,12 +125,12 @@ module _ (keys : NodeKeys) where
 
   -- ---- what is taken
 
-  appended : (ledger es new : List Entry) → checked_append book ledger es ≡ Ok new → IsValid ledger → IsValid new
+  appended : (ledger es new : List Entry) → checked_append book 0 ledger es ≡ Ok new → IsValid ledger → IsValid new
   unfolding checked_append
   appended ledger [] new is here = let same : ledger ≡ new = cc in subst IsValid same here
   appended ledger (e ∷ es) new is here = go (broken service_layers ledger e) refl is (appended (ledger ++ e ∷ []) es new)
     where
-      go : (o : Option Broken) → broken service_layers ledger e ≡ o → unless_refused book (by_rule o) (checked_append book (ledger ++ e ∷ []) es) ≡ Ok new → (checked_append book (ledger ++ e ∷ []) es ≡ Ok new → IsValid (ledger ++ e ∷ []) → IsValid new) → IsValid new
+      go : (o : Option Broken) → broken service_layers ledger e ≡ o → unless_refused book (by_rule o) (checked_append book 0 (ledger ++ e ∷ []) es) ≡ Ok new → (checked_append book 0 (ledger ++ e ∷ []) es ≡ Ok new → IsValid (ledger ++ e ∷ []) → IsValid new) → IsValid new
       go None none made again = again made (valid-push service_layers ledger e here none)
       go (Some why) some made again = absurd (cc)
 
@@ -142,11 +142,11 @@ module _ (keys : NodeKeys) where
   merged x y prev es theirs n here = go ((prev.seqno == 0) || (nat_le prev.seqno (length n.log) && (view_at book n.log prev.seqno == prev.view)))
     where
       inner : (held : ℕ) (p q : Bool) → Whole (if p then accept_entries book x y (prev.seqno + length es) theirs n else (if q then outcome.refuse n (outcome.BelowCommit n.commit (prev.seqno + held))
-          else accept_or_refuse book n x y (prev.seqno + length es) theirs (cut_to (prev.seqno + held) n) (checked_append book (take (prev.seqno + held) n.log) (drop held es))))
+          else accept_or_refuse book n x y (prev.seqno + length es) theirs (cut_to (prev.seqno + held) n) (checked_append book n.base (take (prev.seqno + held) n.log) (drop held es))))
       inner held true q = record { base = here.base; valid = here.valid }
       inner held false true = here
-      inner held false false = taken n x y (prev.seqno + length es) theirs (cut_to (prev.seqno + held) n) (checked_append book (take (prev.seqno + held) n.log) (drop held es))
-          (λ new is. appended (take (prev.seqno + held) n.log) (drop held es) new is (audited-take service_layers n.log (prev.seqno + held) here.valid)) here.base here
+      inner held false false = taken n x y (prev.seqno + length es) theirs (cut_to (prev.seqno + held) n) (checked_append book n.base (take (prev.seqno + held) n.log) (drop held es))
+          (λ new is. appended (take (prev.seqno + held) n.log) (drop held es) new (ap (λ (base : ℕ). checked_append book base (take (prev.seqno + held) n.log) (drop held es)) (sym here.base) ∙ is) (audited-take service_layers n.log (prev.seqno + held) here.valid)) here.base here
 
       go : (m : Bool) → Whole (if m then merge_entries book x y prev.seqno es (matching_prefix_len book (drop prev.seqno n.log) es) theirs n
           else record { node = n; sent = append_reply book x y false (highest_possible_match book n.log prev.view (min (prev.seqno - 1) (length n.log))) n; outcome = outcome.Done })

@@ -161,9 +161,9 @@ impl BookLedger {
     /// Adds copies of entries one after another, up to the first that breaks a rule.
     fn append_each(&mut self, entries: &[Entry]) -> Result<(), OrNoMemory<Rejection>>
         ensures appended { OnOk result ((keys : NodeKeys) →
-            checked_append (ledger_book service_layers keys) self.old entries.now ≡ Ok self.new) }
+            checked_append (ledger_book service_layers keys) 0 self.old entries.now ≡ Ok self.new) }
         ensures refused { IfErr result (λ e. (keys : NodeKeys) → Fails e
-            (checked_append (ledger_book service_layers keys) self.old entries.now)) }
+            (checked_append (ledger_book service_layers keys) 0 self.old entries.now)) }
         ensures prefix { OnErr result (take (length self.old) self.new ≡ self.old) }
     {
         for entry in entries {
@@ -178,9 +178,9 @@ impl BookLedger {
     /// Adds copies of entries, each of which has to follow: all or nothing.
     fn append(&mut self, entries: &[Entry]) -> Result<(), OrNoMemory<Rejection>>
         ensures appended { OnOk result ((keys : NodeKeys) →
-            checked_append (ledger_book service_layers keys) self.old entries.now ≡ Ok self.new) }
+            checked_append (ledger_book service_layers keys) 0 self.old entries.now ≡ Ok self.new) }
         ensures refused { IfErr result (λ e. (keys : NodeKeys) → Fails e
-            (checked_append (ledger_book service_layers keys) self.old entries.now)) }
+            (checked_append (ledger_book service_layers keys) 0 self.old entries.now)) }
         ensures err { OnErr result (self.new ≡ self.old) }
     {
         let len = self.len();
@@ -195,9 +195,9 @@ impl BookLedger {
     /// follow: all or nothing, on a copy that takes the ledger's place.
     fn append_to_copy(&mut self, seqno: u64, entries: &[Entry]) -> Result<(), OrNoMemory<Rejection>>
         ensures replaced { OnOk result ((keys : NodeKeys) → checked_append
-            (ledger_book service_layers keys) (take seqno self.old) entries.now ≡ Ok self.new) }
+            (ledger_book service_layers keys) 0 (take seqno self.old) entries.now ≡ Ok self.new) }
         ensures refused { IfErr result (λ e. (keys : NodeKeys) → Fails e (checked_append
-            (ledger_book service_layers keys) (take seqno self.old) entries.now)) }
+            (ledger_book service_layers keys) 0 (take seqno self.old) entries.now)) }
         ensures err { OnErr result (self.new ≡ self.old) }
     {
         let mut copy = self.copy()?;
@@ -217,9 +217,9 @@ impl BookLedger {
         entries: &[Entry],
     ) -> Result<(), OrNoMemory<Rejection>>
         ensures replaced { OnOk result ((keys : NodeKeys) → checked_append
-            (ledger_book service_layers keys) (take seqno self.old) entries.now ≡ Ok self.new) }
+            (ledger_book service_layers keys) 0 (take seqno self.old) entries.now ≡ Ok self.new) }
         ensures refused { IfErr result (λ e. (keys : NodeKeys) → Fails e (checked_append
-            (ledger_book service_layers keys) (take seqno self.old) entries.now)) }
+            (ledger_book service_layers keys) 0 (take seqno self.old) entries.now)) }
         ensures err { OnErr result (self.new ≡ self.old) }
     {
         if seqno < self.len() {

@@ -1,6 +1,9 @@
 //! The store of a node, as clients ask it.
 
+ghost use Rattle.std.specs.Prelude.{◌≡◌, length};
 ghost use Rattle.gl_answers.specs.Receipts.{receipts_of};
+ghost use Rattle.gl_base.specs.Answers.{Answers};
+ghost use Rattle.gl_receipt.specs.Made.{receipt_of};
 
 use crate::store_book::StoreBook;
 use gl_answers::ClientBook;
@@ -10,7 +13,7 @@ use gl_merkle::Step;
 use gl_node::KeptBook;
 use gl_receipt::{CommittedLedger, MakeFault, Receipt, make};
 use gl_store::Store;
-use std::alloc::AllocError;
+use std::alloc::{AllocError, Global};
 
 /// The ledger of a node that is committed up to a seqno.
 #[derive(Clone, Copy)]
@@ -20,7 +23,20 @@ struct CommittedStore<'a> {
 }
 
 impl CommittedLedger for CommittedStore<'_> {
-    ghost ledger = { λ c. receipts_of c.store.now.ledger c.commit };
+    // The store has all its entries.
+    ghost stands = { λ c l. l ≡ receipts_of c.store.now.ledger c.commit };
+
+    ghost base_of = { λ c. 0 };
+
+    ghost last_of = { λ c. length c.store.now.ledger };
+
+    fn base(&self) -> u64 {
+        self.store.base()
+    }
+
+    fn len(&self) -> u64 {
+        self.store.len()
+    }
 
     fn identity(&self, seqno: u64) -> [u8; 60] {
         CommittedLedger::identity(self.store, seqno)
@@ -30,8 +46,13 @@ impl CommittedLedger for CommittedStore<'_> {
         self.commit
     }
 
+    fn view_at(&self, seqno: u64) -> Option<u32> {
+        let entry = Store::entry(self.store, seqno)?;
+        Some(entry.view)
+    }
+
     fn entry(&self, seqno: u64) -> Option<&Entry> {
-        CommittedLedger::entry(self.store, seqno)
+        Store::entry(self.store, seqno)
     }
 
     fn signature_above(&self, seqno: u64) -> Option<&Entry> {
@@ -43,13 +64,25 @@ impl CommittedLedger for CommittedStore<'_> {
     }
 }
 
+/// The receipt of a transaction by a store that is committed up to a seqno.
+fn receipt_by(
+    alloc: Global,
+    ledger: &CommittedStore<'_>,
+    id: TxId,
+) -> Result<Receipt, OrNoMemory<MakeFault>>
+    ensures { Answers (λ r. r) result
+        (receipt_of (receipts_of ledger.now.store.now.ledger ledger.now.commit) id) }
+{
+    make(alloc, ledger, id)
+}
+
 impl ClientBook for StoreBook {
     fn receipt(&self, commit: u64, id: TxId) -> Result<Receipt, OrNoMemory<MakeFault>> {
         let ledger = CommittedStore {
             store: self.ledger.store(),
             commit,
         };
-        make(self.alloc, &ledger, id)
+        receipt_by(self.alloc, &ledger, id)
     }
 
     fn keeps_limits(&self) {

@@ -5,13 +5,13 @@ ghost use Rattle.gl_base.specs.Answers.{Fails};
 ghost use Rattle.gl_entry.specs.declared.entry.Entry as entries;
 ghost use Rattle.gl_requests.specs.Ranges.{is_request};
 ghost use Rattle.gl_gov_rules.specs.Governed.{is_founding, is_recovery};
-ghost use Rattle.gl_ledger.specs.Broken.{is_unopened};
 ghost use Rattle.gl_ledger.specs.Ledger.{HasViewsUpTo};
 ghost use Rattle.gl_ledger.specs.Makers.{govern_result};
 ghost use Rattle.gl_ledger.specs.NodeKeys.{service_layers};
 ghost use Rattle.gl_ledger.specs.Recordings.{last_entry};
 ghost use Rattle.gl_ledger.specs.Sound.{IsSound};
 ghost use Rattle.gl_ledger.specs.declared.response.Response.TheVariants.{Governed, Replied};
+ghost use Rattle.gl_ledger.specs.Past.{is_unopened};
 ghost use Rattle.gl_store_book.specs.Taken.{Takes, executed, governed};
 
 use crate::book_ledger::{BookLedger, list_last};

@@ -200,7 +200,7 @@ module _ {E Q G R A F : Type 0} (b : Book E Q G R A F) where
       (replication.merge_entries b x y prev.seqno es held theirs n)
       (record { node = n; sent = replication.append_reply b x y false (replication.highest_possible_match b n.log prev.view (min (prev.seqno - 1) (length n.log))) n; outcome = outcome.Done })
       (by (held == length es) (replication.accept_entries b x y (prev.seqno + length es) theirs n) suffix refl
-      (by (nat_lt (prev.seqno + held) (length n.log) && nat_lt (prev.seqno + held) n.commit) (outcome.refuse n (outcome.BelowCommit n.commit (prev.seqno + held))) taken refl (accepted (replication.checked_append b (take (prev.seqno + held) n.log) (drop held es)))))
+      (by (nat_lt (prev.seqno + held) (length n.log) && nat_lt (prev.seqno + held) n.commit) (outcome.refuse n (outcome.BelowCommit n.commit (prev.seqno + held))) taken refl (accepted (replication.checked_append b n.base (take (prev.seqno + held) n.log) (drop held es)))))
       refl
     where
       held : ℕ
@@ -211,7 +211,7 @@ module _ {E Q G R A F : Type 0} (b : Book E Q G R A F) where
       accepted (Err why) = refl
 
       taken : Step E A F
-      taken = replication.accept_or_refuse b n x y (prev.seqno + length es) theirs (cut_to (prev.seqno + held) n) (replication.checked_append b (take (prev.seqno + held) n.log) (drop held es))
+      taken = replication.accept_or_refuse b n x y (prev.seqno + length es) theirs (cut_to (prev.seqno + held) n) (replication.checked_append b n.base (take (prev.seqno + held) n.log) (drop held es))
 
       suffix : Step E A F
       suffix =

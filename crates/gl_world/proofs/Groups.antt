@@ -17,6 +17,7 @@ use Rattle.gl_ledger.specs.NodeKeys.{service_layers, IsNodeKey}
 use Rattle.gl_ledger.specs.ServiceRow.{identity_in}
 use Rattle.gl_ledger.specs.Tree.{tables_of}
 use Rattle.gl_ledger.specs.Recordings.{endorsement_in, key_in, recorded_nodes}
+use Rattle.gl_ledger.specs.Past.{past_of}
 use Rattle.gl_ledger.specs.Broken.{may_record}
 use Rattle.gl_ledger.specs.Ledger.{genesis_entry}
 use Rattle.gl_tx.specs.declared.request.Operation.{Operation}
@@ -173,7 +174,7 @@ group_recorded s h events x leads = recorded service_layers (keys_of s) (start_o
 -- it may record its commit
 pub group_records : (s : Settings) → IsGroup s → (events : List ServiceEvent) (x : NodeId) → Leads service_layers (keys_of s) (start_of s) events x →
     let n = service.node_of service_layers (keys_of s) (start_of s) events x in
-    may_record n.log n.commit ≡ true
+    may_record (past_of n.log) n.commit ≡ true
 group_records s h events x leads = records service_layers (keys_of s) (start_of s) (group_begins s h) events x leads
 
 -- and the service's key in force there is that of the genesis

@@ -16,7 +16,8 @@ use Rattle.gl_requests.specs.declared.request.GovernanceRequest.{GovernanceReque
 use Rattle.gl_ledger.specs.Layers.{Layers}
 use Rattle.gl_ledger.specs.NodeKeys.{NodeKeys}
 use Rattle.gl_ledger.specs.Recordings.{recorded_nodes}
-use Rattle.gl_ledger.specs.Broken.{is_unopened, is_later_commit, may_record}
+use Rattle.gl_ledger.specs.Past.{is_unopened, past_of}
+use Rattle.gl_ledger.specs.Broken.{is_later_commit, may_record}
 use Rattle.gl_ledger.specs.Makers.{MayMake, MakesValid, request_result, signing_result, govern_result}
 use Rattle.gl_ledger.specs.LedgerBook.{ledger_book}
 use Rattle.gl_ledger.specs.OpeningLedger.{Begins}
@@ -77,10 +78,10 @@ module _ (layers : Layers) (keys : NodeKeys) (s : Start Entry) (h : Begins layer
   may_go = may_make layers keys n.log n.view n.commit follows unrecovered views may
 
   -- what the rules of consensus let it record, the audit lets it record
-  pub records : may_record n.log n.commit ≡ true
+  pub records : may_record (past_of n.log) n.commit ≡ true
   records =
-      ap (λ (o : Option Entry). if is_unopened o then n.commit == length n.log + 1 else is_later_commit n.log n.commit) may_go.is_last
-      ∙ ap (λ (b : Bool). if b then n.commit == length n.log + 1 else is_later_commit n.log n.commit) may_go.opened
+      ap (λ (o : Option Entry). if is_unopened o then n.commit == length n.log + 1 else is_later_commit (past_of n.log) n.commit) may_go.is_last
+      ∙ ap (λ (b : Bool). if b then n.commit == length n.log + 1 else is_later_commit (past_of n.log) n.commit) may_go.opened
       ∙ may_go_on layers keys n.log n.commit may
 
   four_bytes : n.view < 2 ^ 32

@@ -205,7 +205,7 @@ module _ {E Q G R A F : Type 0} (b : Book E Q G R A F) where
       (replication.merge_entries b x y prev.seqno es held theirs n)
       (record { node = n; sent = replication.append_reply b x y false (replication.highest_possible_match b n.log prev.view (min (prev.seqno - 1) (length n.log))) n; outcome = outcome.Done })
       (by k (held == length es) (replication.accept_entries b x y (prev.seqno + length es) theirs n) suffix (omega arith)
-      (by k (nat_lt (prev.seqno + held) (length n.log) && nat_lt (prev.seqno + held) n.commit) (outcome.refuse n (outcome.BelowCommit n.commit (prev.seqno + held))) taken (omega arith) (accepted (replication.checked_append b (take (prev.seqno + held) n.log) (drop held es)))))
+      (by k (nat_lt (prev.seqno + held) (length n.log) && nat_lt (prev.seqno + held) n.commit) (outcome.refuse n (outcome.BelowCommit n.commit (prev.seqno + held))) taken (omega arith) (accepted (replication.checked_append b n.base (take (prev.seqno + held) n.log) (drop held es)))))
       (omega arith)
     where
       held : ℕ
@@ -216,7 +216,7 @@ module _ {E Q G R A F : Type 0} (b : Book E Q G R A F) where
       accepted (Err why) = omega arith
 
       taken : Step E A F
-      taken = replication.accept_or_refuse b n x y (prev.seqno + length es) theirs (cut_to (prev.seqno + held) n) (replication.checked_append b (take (prev.seqno + held) n.log) (drop held es))
+      taken = replication.accept_or_refuse b n x y (prev.seqno + length es) theirs (cut_to (prev.seqno + held) n) (replication.checked_append b n.base (take (prev.seqno + held) n.log) (drop held es))
 
       suffix : Step E A F
       suffix =

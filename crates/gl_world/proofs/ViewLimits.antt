@@ -97,10 +97,10 @@ module _ {E Q G R A F : Type 0} (b : Book E Q G R A F) where
   follows_low : (x y : NodeId) (prev : Position) (es : List E) (theirs : ℕ) (n : Node E) → Low n → After (merge_if_matching b x y prev es theirs n)
   follows_low x y prev es theirs n a = go ((prev.seqno == 0) || (nat_le prev.seqno (length n.log) && (view_at b n.log prev.seqno == prev.view)))
     where
-      inner : (p q : Bool) → After (if p then accept_entries b x y (prev.seqno + length es) theirs n else (if q then outcome.refuse n (outcome.BelowCommit n.commit (prev.seqno + matching_prefix_len b (drop prev.seqno n.log) es)) else accept_or_refuse b n x y (prev.seqno + length es) theirs (cut_to (prev.seqno + matching_prefix_len b (drop prev.seqno n.log) es) n) (checked_append b (take (prev.seqno + matching_prefix_len b (drop prev.seqno n.log) es) n.log) (drop (matching_prefix_len b (drop prev.seqno n.log) es) es))))
+      inner : (p q : Bool) → After (if p then accept_entries b x y (prev.seqno + length es) theirs n else (if q then outcome.refuse n (outcome.BelowCommit n.commit (prev.seqno + matching_prefix_len b (drop prev.seqno n.log) es)) else accept_or_refuse b n x y (prev.seqno + length es) theirs (cut_to (prev.seqno + matching_prefix_len b (drop prev.seqno n.log) es) n) (checked_append b n.base (take (prev.seqno + matching_prefix_len b (drop prev.seqno n.log) es) n.log) (drop (matching_prefix_len b (drop prev.seqno n.log) es) es))))
       inner true q = (a, (a, tt))
       inner false true = (a, tt)
-      inner false false = extended_low n x y (prev.seqno + length es) theirs (cut_to (prev.seqno + matching_prefix_len b (drop prev.seqno n.log) es) n) (checked_append b (take (prev.seqno + matching_prefix_len b (drop prev.seqno n.log) es) n.log) (drop (matching_prefix_len b (drop prev.seqno n.log) es) es)) a a
+      inner false false = extended_low n x y (prev.seqno + length es) theirs (cut_to (prev.seqno + matching_prefix_len b (drop prev.seqno n.log) es) n) (checked_append b n.base (take (prev.seqno + matching_prefix_len b (drop prev.seqno n.log) es) n.log) (drop (matching_prefix_len b (drop prev.seqno n.log) es) es)) a a
 
       go : (m : Bool) → After (if m then merge_entries b x y prev.seqno es (matching_prefix_len b (drop prev.seqno n.log) es) theirs n else record { node = n; sent = append_reply b x y false (highest_possible_match b n.log prev.view (min (prev.seqno - 1) (length n.log))) n; outcome = outcome.Done })
       go true = inner (matching_prefix_len b (drop prev.seqno n.log) es == length es) (nat_lt (prev.seqno + matching_prefix_len b (drop prev.seqno n.log) es) (length n.log) && nat_lt (prev.seqno + matching_prefix_len b (drop prev.seqno n.log) es) n.commit)
@@ -174,7 +174,7 @@ module _ {E Q G R A F : Type 0} (b : Book E Q G R A F) where
 
   finish_low : (len cuts : ℕ) (reads : R) (q : Q) (n : Node E) → Low n → After (finish b len cuts reads q n)
   unfolding finish
-  finish_low len cuts reads q n h = led n (finish_as_leader b len cuts reads q n) h (go (not (n.cuts == cuts) || (n.cuts == last_count)) (b.conflict n.log len reads))
+  finish_low len cuts reads q n h = led n (finish_as_leader b len cuts reads q n) h (go (not (n.cuts == cuts) || (n.cuts == last_count)) (b.conflict n.base n.log len reads))
     where
       go : (m : Bool) (c : Option F) → After (if m then outcome.refuse n (outcome.RolledBack cuts n.cuts) else unless_conflict b c n (execute_request b q n))
       go true c = (h, tt)

@@ -10,6 +10,7 @@ ghost use Rattle.gl_requests.specs.declared.request.GovernanceRequest.{Governanc
 ghost use Rattle.gl_ledger.specs.Layers.{Layers};
 ghost use Rattle.gl_ledger.specs.NodeKeys.{NodeKeys};
 ghost use Rattle.gl_ledger.specs.Recordings.{recorded_nodes};
+ghost use Rattle.gl_ledger.specs.Past.{past_of};
 ghost use Rattle.gl_ledger.specs.Broken.{may_record};
 ghost use Rattle.gl_ledger.specs.Sound.{IsSound, IsUnrecovered};
 ghost use Rattle.gl_ledger.specs.Makers.{MakesValid, govern_result, request_result, signing_result};
@@ -60,6 +61,7 @@ pub fn a_leader_may_sign()
         member x (recorded_nodes (node_of layers keys s events x).log) ≡ true }
     ensures commit { (layers : Layers) (keys : NodeKeys) (s : Start Entry) → Begins layers s →
         (events : List ServiceEvent) (x : NodeId) → Leads layers keys s events x →
-        may_record (node_of layers keys s events x).log (node_of layers keys s events x).commit
+        may_record (past_of (node_of layers keys s events x).log)
+        (node_of layers keys s events x).commit
         ≡ true }
 {}

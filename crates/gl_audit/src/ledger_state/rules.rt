@@ -143,8 +143,9 @@ impl LedgerState {
     ghost use Rattle.gl_rules.specs.Identity.{NodeId, member};
     ghost use Rattle.gl_ledger.specs.Tree.{leaves_of};
     ghost use Rattle.gl_ledger.specs.Recordings.{last_entry, recording_of, recorded_nodes, mark, removal};
-    ghost use Rattle.gl_ledger.specs.Broken.{broken, broken_where, broken_by, broken_by_signature, broken_by_governance, broken_by_application, broken_by_fault, fault_of_signature, breach, is_next_view, is_in_order, is_above_removal, last_signed, may_record, signs_at};
+    ghost use Rattle.gl_ledger.specs.Broken.{broken, broken_where, broken_by, broken_by_signature, broken_by_governance, broken_by_application, broken_by_fault, fault_of_signature, breach, is_next_view, is_in_order, is_above_removal, may_record};
     ghost use Rattle.gl_ledger.specs.NodeKeys.{service_layers};
+    ghost use Rattle.gl_ledger.specs.Past.{last_signed, past_of, signs_at};
 
     /// The first rule of the audit that an entry breaks after the ledger, if it breaks one. Fails
     /// only where memory runs out.
@@ -173,7 +174,7 @@ impl LedgerState {
     /// it opens the service, or else the seqno of a signature that isn't below the commit that the
     /// last one recorded, nor below the removal of a node that was marked after that one.
     pub fn may_record(&self, commit: u64) -> bool
-        ensures { ForLedgers self.now (λ ledger. result ≡ may_record ledger commit) }
+        ensures { ForLedgers self.now (λ ledger. result ≡ may_record (past_of ledger) commit) }
     {
         if self.end.is_unopened {
             follows(commit, self.end.len)
@@ -224,7 +225,7 @@ impl LedgerState {
         requires named { self.old.end.len ≤ last_seqno }
         requires recorded { recording_of entry.now.content ≡ Some recording.now }
         ensures broken { IfOk result (λ broken. ForLedgers self.old (λ ledger. broken
-            ≡ broken_where service_layers (Some recording.now) ledger entry.now)) }
+            ≡ broken_where service_layers (Some recording.now) (past_of ledger) entry.now)) }
         ensures kept { self.new ≡ self.old }
     {
         if let Some(rule) = self.out_of_form(recording, entry) {
@@ -244,11 +245,11 @@ impl LedgerState {
         requires recorded { recording_of entry.now.content ≡ Some recording.now }
         requires fits { is_entry entry.now ≡ true }
         requires view { ForLedgers self.old (λ ledger.
-            is_next_view (last_entry ledger) recording.now entry.now.view ≡ true) }
+            is_next_view (past_of ledger).last recording.now entry.now.view ≡ true) }
         requires order { ForLedgers self.old (λ ledger.
-            is_in_order (last_entry ledger) recording.now entry.now.view ≡ true) }
+            is_in_order (past_of ledger).last recording.now entry.now.view ≡ true) }
         ensures broken { IfOk result (λ broken. ForLedgers self.old (λ ledger.
-            broken ≡ broken_by service_layers recording.now ledger entry.now)) }
+            broken ≡ broken_by service_layers recording.now (past_of ledger) entry.now)) }
         ensures kept { self.new ≡ self.old }
     {
         match recording {
@@ -263,16 +264,16 @@ impl LedgerState {
     fn out_of_form(&self, recording: &Recording, entry: &Entry) -> Option<u8>
         requires named { self.now.end.len ≤ last_seqno }
         ensures some { IfSome result (λ rule. ForLedgers self.now (λ ledger.
-            broken_where service_layers (Some recording.now) ledger entry.now
+            broken_where service_layers (Some recording.now) (past_of ledger) entry.now
             ≡ Some (breach rule (self.now.end.len + 1) entry.now))) }
         ensures none { IfNone result (ForLedgers self.now (λ ledger.
-            broken_where service_layers (Some recording.now) ledger entry.now
-            ≡ broken_by service_layers recording.now ledger entry.now)) }
+            broken_where service_layers (Some recording.now) (past_of ledger) entry.now
+            ≡ broken_by service_layers recording.now (past_of ledger) entry.now)) }
         ensures fits { IfNone result (is_entry entry.now ≡ true) }
         ensures view { IfNone result (ForLedgers self.now (λ ledger.
-            is_next_view (last_entry ledger) recording.now entry.now.view ≡ true)) }
+            is_next_view (past_of ledger).last recording.now entry.now.view ≡ true)) }
         ensures order { IfNone result (ForLedgers self.now (λ ledger.
-            is_in_order (last_entry ledger) recording.now entry.now.view ≡ true)) }
+            is_in_order (past_of ledger).last recording.now entry.now.view ≡ true)) }
     {
         let seqno = self.next_seqno();
         if !entry.fits() {
@@ -295,7 +296,7 @@ impl LedgerState {
 
     fn is_next_view(&self, recording: &Recording, view: u32) -> bool
         ensures { ForLedgers self.now (λ ledger.
-            result ≡ is_next_view (last_entry ledger) recording.now view) }
+            result ≡ is_next_view (past_of ledger).last recording.now view) }
     {
         match self.end.last {
             None => is_founding(recording) && view == FIRST_VIEW,
@@ -308,7 +309,7 @@ impl LedgerState {
 
     fn is_in_order(&self, recording: &Recording, view: u32) -> bool
         ensures { ForLedgers self.now (λ ledger.
-            result ≡ is_in_order (last_entry ledger) recording.now view) }
+            result ≡ is_in_order (past_of ledger).last recording.now view) }
     {
         match self.end.last {
             None => true,
@@ -329,7 +330,7 @@ impl LedgerState {
     ) -> Result<Option<Broken>, AllocError>
         requires named { self.now.end.len ≤ last_seqno }
         ensures { IfOk result (λ broken. ForLedgers self.now (λ ledger.
-            broken ≡ broken_by_application request.now ledger entry.now)) }
+            broken ≡ broken_by_application request.now (past_of ledger) entry.now)) }
     {
         let state = self.service_state;
         if state != ServiceState::Open {
@@ -357,13 +358,13 @@ impl LedgerState {
     ) -> Result<Option<Broken>, AllocError>
         requires state { IsState self.old }
         requires named { self.old.end.len ≤ last_seqno }
-        requires view { ForLedgers self.old (λ ledger. is_next_view (last_entry ledger)
+        requires view { ForLedgers self.old (λ ledger. is_next_view (past_of ledger).last
             (Recording.Governance request.now) entry.now.view ≡ true) }
-        requires order { ForLedgers self.old (λ ledger. is_in_order (last_entry ledger)
+        requires order { ForLedgers self.old (λ ledger. is_in_order (past_of ledger).last
             (Recording.Governance request.now) entry.now.view ≡ true) }
         requires fits { is_request request.now ≡ true }
         ensures broken { IfOk result (λ broken. ForLedgers self.old (λ ledger.
-            broken ≡ broken_by_governance request.now ledger entry.now)) }
+            broken ≡ broken_by_governance request.now (past_of ledger) entry.now)) }
         ensures kept { self.new ≡ self.old }
     {
         let seqno = self.next_seqno();
@@ -393,7 +394,7 @@ impl LedgerState {
         requires named { self.now.end.len ≤ last_seqno }
         requires some { 0 < self.now.end.len }
         ensures { ForLedgers self.now (λ ledger. result
-            ≡ broken_by_signature service_layers signature.now ledger entry.now) }
+            ≡ broken_by_signature service_layers signature.now (past_of ledger) entry.now) }
     {
         if !self.is_recorded(&signature.node) {
             return Some(self.breach(9, entry));
@@ -413,7 +414,7 @@ impl LedgerState {
         requires named { self.now.end.len ≤ last_seqno }
         requires some { 0 < self.now.end.len }
         ensures { ForLedgers self.now (λ ledger. result ≡ broken_by_fault (length ledger + 1)
-            (fault_of_signature service_layers ledger entry.now signature.now)) }
+            (fault_of_signature service_layers (past_of ledger) entry.now signature.now)) }
     {
         let Some(identity) = &self.identity else {
             unreachable!();

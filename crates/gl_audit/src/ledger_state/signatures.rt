@@ -40,7 +40,7 @@ fn last_or_zero(seqnos: &[u64]) -> u64
 }
 
 impl LedgerState {
-    ghost use Rattle.gl_ledger.specs.Broken.{last_signed, signs_at};
+    ghost use Rattle.gl_ledger.specs.Past.{last_signed, signs_at};
 
     /// The seqno of the last signature, 0 where there is none.
     pub fn last_signed(&self) -> u64

@@ -26,9 +26,9 @@ impl Store {
     ghost use Rattle.gl_audit.specs.GovState.{share_count};
     ghost use Rattle.gl_ledger.specs.Ledger.{HasViewsUpTo, genesis_entry, governance_entry};
     ghost use Rattle.gl_ledger.specs.Recordings.{last_entry, requests_of};
-    ghost use Rattle.gl_ledger.specs.Broken.{is_unopened};
     ghost use Rattle.gl_ledger.specs.Makers.{governance_made, govern_result, status_after};
     ghost use Rattle.gl_store.specs.Calls.{Governs, Refuses};
+    ghost use Rattle.gl_ledger.specs.Past.{is_unopened};
 
     /// Takes a request of governance that founds no service, and makes its entry, in a view that
     /// isn't below that of any entry before. A genesis comes by `found`, a recovery by

@@ -5,8 +5,8 @@ ghost use Rattle.std.specs.Option.{option_copied};
 ghost use Rattle.gl_base.specs.TxId.{last_seqno};
 ghost use Rattle.gl_entry.specs.Entry.{is_entry};
 ghost use Rattle.gl_requests.specs.Ranges.{is_recovery};
-ghost use Rattle.gl_ledger.specs.Broken.{signs_at};
 ghost use Rattle.gl_ledger.specs.Recovery.{view_of_last};
+ghost use Rattle.gl_ledger.specs.Past.{signs_at};
 
 use super::Store;
 use gl_base::{MEBIBYTE, OrNoMemory};

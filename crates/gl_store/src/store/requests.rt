@@ -17,10 +17,10 @@ impl Store {
     ghost use Rattle.gl_ledger.specs.Tree.{tables_of};
     ghost use Rattle.gl_ledger.specs.ServiceRow.{service_state};
     ghost use Rattle.gl_ledger.specs.Recordings.{last_entry};
-    ghost use Rattle.gl_ledger.specs.Broken.{is_unopened};
     ghost use Rattle.gl_ledger.specs.declared.response.Response.TheVariants.{Replied};
     ghost use Rattle.gl_ledger.specs.Makers.{request_result};
     ghost use Rattle.gl_store.specs.Calls.{Executes, Refuses};
+    ghost use Rattle.gl_ledger.specs.Past.{is_unopened};
 
     /// Runs a request and makes its entry, in a view that isn't below that of any entry before.
     /// Gives the entry's identifier and the reply. Refused, in this order, where the service isn't

@@ -4,8 +4,8 @@ ghost use Rattle.std.specs.Prelude.{◌≡◌, ◌-◌, ◌<◌, [], length, tak
 ghost use Rattle.std.specs.List.{flat_map};
 ghost use Rattle.gl_entry.specs.Entry.{frame_bytes};
 ghost use Rattle.gl_ledger.specs.Audit.{opened_where, signer_of};
-ghost use Rattle.gl_ledger.specs.Broken.{is_unopened};
 ghost use Rattle.gl_ledger.specs.Recordings.{last_entry};
+ghost use Rattle.gl_ledger.specs.Past.{is_unopened};
 ghost use Rattle.gl_store_book.specs.ServiceStart.{IsNoStart, TakesFrame, service_start, start_after, start_in};
 
 use crate::book_ledger::BookLedger;

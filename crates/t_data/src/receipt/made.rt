@@ -188,6 +188,65 @@ fn refuses_what_is_not_committed(rt: HostRuntime) -> Result<(), Fail> {
     Ok(())
 }
 
+// The ledger without its entries up to the fourth.
+fn ledger_above_four(rt: &HostRuntime, commit: u64) -> Result<MemLedger, Fail> {
+    let mut ledger = ledger(rt, commit)?;
+    ledger.let_go(4);
+    Ok(ledger)
+}
+
+#[test]
+fn tells_the_base(rt: HostRuntime) -> Result<(), Fail> {
+    // Where the last is committed, and where no signature above is.
+    for commit in [8, 5] {
+        for seqno in 1..5 {
+            let id = TxId { view: 2, seqno };
+            let made = make(rt.alloc(), &ledger_above_four(&rt, commit)?, id);
+            assert_eq!(rt;
+                fault(made)?,
+                Some(MakeFault::BelowBase { base: 4 }),
+                "{seqno}"
+            );
+        }
+    }
+    Ok(())
+}
+
+#[test]
+fn tells_the_status_before_the_base(rt: HostRuntime) -> Result<(), Fail> {
+    let rows = [
+        (6, 3, 3, Status::Invalid),
+        (6, 2, 0, Status::Invalid),
+        (6, 3, 7, Status::Pending),
+    ];
+    for (commit, view, seqno, status) in rows {
+        let id = TxId { view, seqno };
+        let made = make(rt.alloc(), &ledger_above_four(&rt, commit)?, id);
+        assert_eq!(rt; fault(made)?, Some(MakeFault::NotCommitted { status }));
+    }
+    Ok(())
+}
+
+#[test]
+fn makes_the_same_receipts_above_a_base(rt: HostRuntime) -> Result<(), Fail> {
+    let id = TxId { view: 2, seqno: 5 };
+    let whole = make(rt.alloc(), &ledger(&rt, 6)?, id)?;
+    let above = make(rt.alloc(), &ledger_above_four(&rt, 6)?, id)?;
+    let want = write_receipt(rt.alloc(), &whole)?;
+    let text = write_receipt(rt.alloc(), &above)?;
+    assert_eq!(rt; text.as_slice(), want.as_slice());
+    let made = make(
+        rt.alloc(),
+        &ledger_above_four(&rt, 6)?,
+        TxId { view: 2, seqno: 6 },
+    );
+    assert_eq!(rt;
+        fault(made)?,
+        Some(MakeFault::NoLaterSignature { commit: 6 })
+    );
+    Ok(())
+}
+
 #[test]
 fn wants_a_committed_signature_above(rt: HostRuntime) -> Result<(), Fail> {
     // The first is the last signature before the recovery.

@@ -4,7 +4,7 @@ ghost use Rattle.std.specs.Prelude.{◌≡◌, nat_le, reverse, option_map, unwr
 ghost use Rattle.std.specs.List.{find};
 ghost use Rattle.std.specs.Option.{option_copied};
 ghost use Rattle.gl_entry.specs.Entry.{is_signature};
-ghost use Rattle.gl_receipt.specs.Made.{entry_at, signature_above};
+ghost use Rattle.gl_receipt.specs.Made.{entry_at, view_at, signature_above};
 
 use gl_entry::{Content, Digest, Entry, leaf};
 use gl_merkle::{Step, path};
@@ -20,12 +20,14 @@ struct Keys {
     later: Vec<(u64, [u8; 60])>,
 }
 
-/// Entries whose i-th has seqno i, and as many leaves.
+/// Entries whose i-th has seqno i, and as many leaves. It tells of the entries above its base
+/// alone, and of the views of all.
 #[derive(Drop)]
 pub(crate) struct MemLedger {
     alloc: Global,
     keys: Keys,
     commit: u64,
+    base: u64,
     entries: Vec<Entry>,
     leaves: Vec<Digest>,
 }
@@ -35,9 +37,9 @@ impl Model for MemLedger {
     ghost use Rattle.gl_entry.specs.declared.entry.Entry.{Entry};
     ghost use Rattle.t_data.specs.declared.receipt.mem_ledger.Keys.{Keys};
 
-    ghost Value = { List Entry × List (List ℕ) × ℕ × Keys };
+    ghost Value = { List Entry × List (List ℕ) × ℕ × ℕ × Keys };
 
-    ghost view = { λ l. (l.entries.items, l.leaves.items, l.commit, l.keys) };
+    ghost view = { λ l. (l.entries.items, l.leaves.items, l.base, l.commit, l.keys) };
 
     ghost invariant = { λ l. (length l.leaves.items ≡ length l.entries.items)
         × ((i : ℕ) (e : Entry) → slice_get l.entries.items i ≡ Some e → e.seqno ≡ suc i) };
@@ -73,6 +75,16 @@ fn entry_in(entries: &[Entry], seqno: u64) -> Option<&Entry>
     }
 }
 
+/// The view of the entry with a seqno among entries from seqno 1 on.
+fn view_in(entries: &[Entry], seqno: u64) -> Option<u32>
+    ensures { result ≡ view_at entries.now seqno }
+{
+    match entry_in(entries, seqno) {
+        None => None,
+        Some(entry) => Some(entry.view),
+    }
+}
+
 /// The last of these keys that is in force at a seqno.
 fn last_key(keys: &[(u64, [u8; 60])], seqno: u64) -> Option<[u8; 60]>
     ensures { result ≡ option_map (λ key. key.1)
@@ -102,6 +114,7 @@ impl MemLedger {
                 later: Vec::new(alloc),
             },
             commit,
+            base: 0,
             entries: Vec::new(alloc),
             leaves: Vec::new(alloc),
         }
@@ -111,6 +124,11 @@ impl MemLedger {
     pub(crate) fn recover(&mut self, seqno: u64, identity: [u8; 60]) -> Result<(), Fail> {
         self.keys.later.push((seqno, identity))?;
         Ok(())
+    }
+
+    /// Lets the entries up to a seqno go.
+    pub(crate) fn let_go(&mut self, seqno: u64) {
+        self.base = seqno;
     }
 
     /// Adds the entry of a frame, and its leaf.
@@ -128,13 +146,28 @@ impl MemLedger {
 }
 
 impl CommittedLedger for MemLedger {
-    ghost ledger = { λ l. record {
-      entries = l.0;
-      leaves = l.1;
-      commit = l.2;
+    ghost use Rattle.std.specs.Prelude.{◌≡◌, length};
+
+    ghost stands = { λ held l. l ≡ record {
+      base = held.2;
+      entries = held.0;
+      leaves = held.1;
+      commit = held.3;
       identity = λ seqno. unwrap_or (option_map (λ key. key.1)
-          (find (λ key. nat_le key.0 seqno) (reverse l.3.later.items))) l.3.first;
+          (find (λ key. nat_le key.0 seqno) (reverse held.4.later.items))) held.4.first;
     } };
+
+    ghost base_of = { λ held. held.2 };
+
+    ghost last_of = { λ held. length held.0 };
+
+    fn base(&self) -> u64 {
+        self.base
+    }
+
+    fn len(&self) -> u64 {
+        self.entries.len() as u64
+    }
 
     fn identity(&self, seqno: u64) -> [u8; 60] {
         self.keys.at(seqno)
@@ -144,7 +177,14 @@ impl CommittedLedger for MemLedger {
         self.commit
     }
 
+    fn view_at(&self, seqno: u64) -> Option<u32> {
+        view_in(&self.entries, seqno)
+    }
+
     fn entry(&self, seqno: u64) -> Option<&Entry> {
+        if seqno <= self.base {
+            return None;
+        }
         entry_in(&self.entries, seqno)
     }
 

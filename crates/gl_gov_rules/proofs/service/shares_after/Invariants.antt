@@ -1,6 +1,6 @@
 use Rattle.std.proofs.Common.{◌≡◌, ◌++◌, drop}
 use Rattle.std.specs.List.{filter_map}
-use Rattle.gl_gov_rules.specs.Index.{given_after}
+use Rattle.gl_gov_rules.specs.Service.{given_after}
 use Rattle.gl_gov_rules.proofs.service.shares_after.Given as goal
 
 abbrev pub invariant-loop-given : goal.invariant-loop-given

@@ -1,7 +1,7 @@
 use Rattle.std.proofs.Common.{◌≡◌, ℕ, List, take, arith, ap, ◌∙◌}
 use Rattle.gl_entry.specs.declared.entry.Entry.{Entry}
-use Rattle.gl_ledger.specs.Broken.{last_signed, signs_at}
 use Rattle.gl_ledger.specs.Recordings.{last_entry}
+use Rattle.gl_ledger.specs.Past.{last_signed, signs_at}
 use Rattle.gl_audit.specs.Committed.{Held}
 use Rattle.gl_recovery.proofs.SignedPrefixes.{last_within, prefix_signed}
 use Rattle.gl_recovery.proofs.recovery_entry.cut_to_signature.Goals as goal

@@ -1,8 +1,8 @@
 use Rattle.std.proofs.Common.{◌≡◌, ℕ, nat_eq, take, ◌&&◌, ◌==◌, not, Bool, false, ap, sym, ◌∙◌, arith}
 use Rattle.std.proofs.lemmas.Bool.Decides.{nat_tests}
-use Rattle.gl_ledger.specs.Broken.{last_signed}
 use Rattle.gl_audit.proofs.SignatureSeqnos.{signs_where}
 use Rattle.gl_audit.proofs.ledger_state.LedgerState.signs_at.Goals as goal
+use Rattle.gl_ledger.specs.Past.{last_signed}
 
 pub returns-then-seqno-ne0 : goal.returns-then-seqno-ne0
 returns-then-seqno-ne0 c = λ ledger k.

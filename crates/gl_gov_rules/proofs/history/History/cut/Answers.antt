@@ -1,7 +1,7 @@
 use Rattle.std.proofs.Common.{◌≡◌, List, length, take, map, filter, nat_le, arith, sym, subst, ap, ◌∙◌}
 use Rattle.gl_gov_rules.specs.declared.change.Recorded.{Recorded}
 use Rattle.gl_gov_rules.specs.declared.change.Changed.{Changed}
-use Rattle.gl_gov_rules.specs.History.{History}
+use Rattle.gl_gov_rules.specs.History.{History, nothing}
 use Rattle.gl_gov_rules.specs.Governed.{up_to}
 use Rattle.gl_gov_rules.specs.Changes.{history}
 use Rattle.gl_gov_rules.specs.Proposals.{settling_in}
@@ -17,7 +17,7 @@ invariant_of-self c =
     let rising = rising_in _ rs _ c.self.view_is c.requires.rising in
     let left : c.cut_list.new.list.items ≡ up_to c.args.to rs = cut_requests c.args.to rs _ rising c.cut_list.ensures in
     let cs = c.self.inside.changes.items in
-    let h : History = record { requests = rs; changes = cs } in
+    let h : History = record { carried = nothing; requests = rs; changes = cs } in
     let whole : h ≡ history rs = subst (λ (x : History). x ≡ history x.requests) (sym c.self.view_is) c.requires.whole in
     let low : c.truncate.new.self.items ≡ filter (λ (x : Changed). nat_le x.seqno c.args.to) cs =
     count_taken (λ (x : Changed). nat_le x.seqno c.args.to) _ _ cs _ _ c.truncate.ensures.items c.changes_up_to-changes.ensures c.deref.ensures.value ∙ changes_left c.args.to h rising whole in

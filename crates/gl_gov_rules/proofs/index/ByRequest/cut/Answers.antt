@@ -15,7 +15,8 @@ use Rattle.gl_gov_rules.specs.declared.request_facts.Signed.{Signed}
 use Rattle.gl_gov_rules.specs.Members.{leaf_after}
 use Rattle.gl_gov_rules.specs.Nodes.{nodes_recorded}
 use Rattle.gl_gov_rules.specs.Proposals.{proposal_in, ballot_on}
-use Rattle.gl_gov_rules.specs.RequestFacts.{mark_in, given_in, signed_by}
+use Rattle.gl_gov_rules.specs.RequestFacts.{mark_in, signed_by}
+use Rattle.gl_gov_rules.specs.Service.{given_in}
 use Rattle.gl_gov_rules.proofs.ByRequests.{cut_flat, cut_map, each_kept}
 use Rattle.gl_gov_rules.proofs.FactsAtSeqno.{nodes_at, mark_at, given_at, proposal_at, signed_at, ballot_at}
 use Rattle.gl_gov_rules.proofs.index.ByRequest.cut.Goals as goal

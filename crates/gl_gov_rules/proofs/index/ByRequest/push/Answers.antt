@@ -7,7 +7,8 @@ use Rattle.gl_gov_rules.specs.declared.change.Recorded.{Recorded}
 use Rattle.gl_gov_rules.specs.Members.{leaf_after}
 use Rattle.gl_gov_rules.specs.Nodes.{nodes_recorded}
 use Rattle.gl_gov_rules.specs.Proposals.{proposal_in, ballot_on}
-use Rattle.gl_gov_rules.specs.RequestFacts.{mark_in, given_in, signed_by}
+use Rattle.gl_gov_rules.specs.RequestFacts.{mark_in, signed_by}
+use Rattle.gl_gov_rules.specs.Service.{given_in}
 use Rattle.gl_gov_rules.proofs.Counting.{each_append}
 use Rattle.gl_gov_rules.proofs.ByRequests.{one_more, one_more_flat}
 use Rattle.gl_gov_rules.proofs.index.ByRequest.push.Goals as goal

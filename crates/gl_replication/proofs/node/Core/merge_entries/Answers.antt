@@ -38,7 +38,7 @@ returns-in-Err-Fault-clause-refused g c = λ b x n s.
     (some_new b c.args.y c.args.view n low x c.args.len c.args.prev c.args.entries.now c.args.held c.args.theirs h.0 h.1 c.if-held-entries.false
     (ap (λ k. nat_lt (c.args.prev + c.args.held) c.args.len && nat_lt (c.args.prev + c.args.held) k) (sym (commit_of g.B.Book.stands s)) ∙ sym c.is_cut_below.ensures ∙ c.if-is_cut_below.false)
     c.requires.within.0 (Err c.in-Err-Fault.why)
-    (ap (checked_append b (take (c.args.prev + c.args.held) n.log)) (sym (rest_is c.args.held c.args.entries.now)) ∙ expected _ c.in-Err-Fault.field-0 c.in-Err-Fault.why (search rules) k))
+    (ap (checked_append b n.base (take (c.args.prev + c.args.held) n.log)) (sym (rest_is c.args.held c.args.entries.now)) ∙ expected _ c.in-Err-Fault.field-0 c.in-Err-Fault.why (search rules) k))
 
 pub returns-clause-steps : goal.returns-clause-steps
 returns-clause-steps g c = λ b x n s.
@@ -48,7 +48,7 @@ returns-clause-steps g c = λ b x n s.
     subst (λ (m : Step Entry g.row.B-Response.Denot g.row.B-Refused.Denot). Stepped g.B.Book.stands b x m c.accept_entries-in-Ok-replace_tail.result c.accept_entries-in-Ok-replace_tail.new.self)
     (sym (some_new b c.args.y c.args.view n low x c.args.len c.args.prev c.args.entries.now c.args.held c.args.theirs h.0 h.1 c.if-held-entries.false
     (ap (λ k. nat_lt (c.args.prev + c.args.held) c.args.len && nat_lt (c.args.prev + c.args.held) k) (sym (commit_of g.B.Book.stands s)) ∙ sym c.is_cut_below.ensures ∙ c.if-is_cut_below.false)
-    c.requires.within.0 (Ok r.0) (ap (checked_append b (take (c.args.prev + c.args.held) n.log)) (sym (rest_is c.args.held c.args.entries.now)) ∙ r.1)))
+    c.requires.within.0 (Ok r.0) (ap (checked_append b n.base (take (c.args.prev + c.args.held) n.log)) (sym (rest_is c.args.held c.args.entries.now)) ∙ r.1)))
     (accepted g.B.Book.stands c.args.y c.args.view (c.args.prev + length c.args.entries.now) c.args.theirs (record (cut_to (c.args.prev + c.args.held) (become_follower b c.args.y (update_view b c.args.view n))) { log = r.0 }) c.accept_entries-in-Ok-replace_tail.result
     (c.accept_entries-in-Ok-replace_tail.ensures.0 b x _ r.2)
     (ap seen_outcome c.accept_entries-in-Ok-replace_tail.ensures.1) (ap (map seen_message) c.accept_entries-in-Ok-replace_tail.ensures.2 ∙ c.in-Ok.ensures.value b x n s) (view_is b c.args.y c.args.view n low))

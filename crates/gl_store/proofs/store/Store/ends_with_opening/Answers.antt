@@ -1,10 +1,10 @@
 use Rattle.std.proofs.Common.{◌≡◌, ◌∙◌, ◌-◌, length, ap, sym, subst, arith, Option, IfSome}
 use Rattle.gl_rules.specs.Log.{entry_at}
 use Rattle.gl_entry.specs.declared.entry.Entry.{Entry}
-use Rattle.gl_ledger.specs.Broken.{is_unopened}
 use Rattle.gl_audit.specs.Ends.{IsRead}
 use Rattle.gl_audit.proofs.LastEntries.{entry_read, last_of_take}
 use Rattle.gl_store.proofs.store.Store.ends_with_opening.Goals as goal
+use Rattle.gl_ledger.specs.Past.{is_unopened}
 
 pub is_unopened-requires : goal.is_unopened-requires
 is_unopened-requires c = record {

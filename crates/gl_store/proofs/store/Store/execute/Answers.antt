@@ -2,7 +2,8 @@ use Rattle.std.proofs.Common.{◌≡◌, ◌<◌, false, None, Ok, List, length,
 use Rattle.gl_entry.specs.declared.entry.Entry.{Entry}
 use Rattle.gl_ledger.specs.Ledger.{HasViewsUpTo, execute_result}
 use Rattle.gl_ledger.specs.NodeKeys.{service_layers}
-use Rattle.gl_ledger.specs.Broken.{is_unopened, broken}
+use Rattle.gl_ledger.specs.Past.{is_unopened}
+use Rattle.gl_ledger.specs.Broken.{broken}
 use Rattle.gl_ledger.specs.Recordings.{last_entry}
 use Rattle.gl_ledger.proofs.Applications.{request_ok}
 use Rattle.gl_audit.specs.Committed.{Held}

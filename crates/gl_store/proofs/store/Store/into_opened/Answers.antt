@@ -1,6 +1,6 @@
 use Rattle.std.proofs.Common.{◌≡◌, ◌∙◌, ◌-◌, ℕ, true, false, length, take, Err, rules, sym, ap, subst}
 use Rattle.gl_ledger.specs.Recordings.{last_entry}
-use Rattle.gl_ledger.specs.Broken.{is_unopened}
+use Rattle.gl_ledger.specs.Past.{is_unopened}
 use Rattle.gl_audit.specs.Committed.{Held}
 use Rattle.gl_store.specs.Kept.{IsKept}
 use Rattle.gl_store.proofs.OpeningLedgers.{not_opening, opening_signed_by, kept_opened}

@@ -5,8 +5,8 @@ use Rattle.gl_audit.specs.Committed.{Held}
 use Rattle.gl_store_book.specs.Stands.{NodeStore}
 use Rattle.gl_store_book.proofs.AllLedgers.{reports}
 use Rattle.gl_rules.specs.Log.{greatest_recorded}
-use Rattle.gl_ledger.specs.Broken.{last_commit}
 use Rattle.gl_ledger.specs.Audit.{audited}
+use Rattle.gl_ledger.specs.Past.{last_commit}
 use Rattle.gl_store_book.proofs.Commits.{last_is_greatest}
 use Rattle.gl_store_book.proofs.book.StoreBookBook.known_commit.Goals as goal
 

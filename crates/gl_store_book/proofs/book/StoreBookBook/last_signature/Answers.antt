@@ -1,12 +1,12 @@
 use Rattle.std.proofs.Common.{◌≡◌, ℕ, sym, ap, ap₂, ◌∙◌, arith}
 use Rattle.gl_ledger.specs.NodeKeys.{service_layers}
 use Rattle.gl_ledger.specs.LedgerBook.{ledger_book}
+use Rattle.gl_ledger.specs.Past.{last_signed}
 use Rattle.gl_audit.specs.Committed.{Held}
 use Rattle.gl_store_book.specs.Stands.{NodeStore, whole}
 use Rattle.gl_store_book.proofs.AllLedgers.{reports, stands_with}
 use Rattle.gl_base.specs.declared.tx_id.TxId.{TxId}
 use Rattle.gl_rules.specs.Log.{last_signature, view_at}
-use Rattle.gl_ledger.specs.Broken.{last_signed}
 use Rattle.gl_store_book.proofs.Commits.{last_same, signed_within}
 use Rattle.gl_store_book.proofs.book.StoreBookBook.last_signature.Goals as goal
 

@@ -11,7 +11,7 @@ pub returns-clause-replaced : goal.returns-clause-replaced
 returns-clause-replaced c =
     let new : NodeStore = record { me = c.self.inside.me; key = c.self.inside.key; ledger = c.replace_tail.new.self } in
     if_ok c.replace_tail.result (λ r replaced.
-    becomes c.args.self.now new (λ b h log. checked_append b (take c.args.seqno h.log) c.args.entries.now ≡ Ok log)
+    becomes c.args.self.now new (λ b h log. checked_append b h.base (take c.args.seqno h.log) c.args.entries.now ≡ Ok log)
     (ap (λ (n : NodeStore). record n { ledger = c.replace_tail.new.self }) c.self.view_is)
-    (λ keys has. ap (λ (n : NodeStore). checked_append (ledger_book service_layers keys) (take c.args.seqno n.ledger) c.args.entries.now) (sym c.self.view_is) ∙ replaced keys))
+    (λ keys has. ap (λ (n : NodeStore). checked_append (ledger_book service_layers keys) 0 (take c.args.seqno n.ledger) c.args.entries.now) (sym c.self.view_is) ∙ replaced keys))
     c.replace_tail.ensures.replaced

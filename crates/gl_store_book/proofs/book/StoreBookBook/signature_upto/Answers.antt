@@ -4,9 +4,9 @@ use Rattle.gl_audit.specs.Committed.{Held}
 use Rattle.gl_store_book.specs.Stands.{NodeStore}
 use Rattle.gl_store_book.proofs.AllLedgers.{reports}
 use Rattle.gl_rules.specs.Log.{last_signature}
-use Rattle.gl_ledger.specs.Broken.{last_signed}
 use Rattle.gl_store_book.proofs.Commits.{last_same}
 use Rattle.gl_store_book.proofs.book.StoreBookBook.signature_upto.Goals as goal
+use Rattle.gl_ledger.specs.Past.{last_signed}
 
 pub returns : goal.returns
 returns c = reports c.args.self.now (λ b h. c.signature_upto.result ≡ last_signature b (take c.args.seqno h.log)) (λ keys has.

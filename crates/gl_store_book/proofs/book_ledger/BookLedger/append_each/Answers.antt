@@ -17,7 +17,7 @@ returns-in-Err-clause-refused c = λ keys.
     let is : copy ≡ get_or es i c.entry-item.result = c.in_ok-copy.ensures ∙ c.entry-item.is in
     let rest : drop i es ≡ copy ∷ drop (suc i) es = suffix es i c.entry-item.result c.loop-entry-test.true ∙ ap (λ (e : Entry). e ∷ drop (suc i) es) (sym is) in
     let why = refused_next keys c.loop-entry.self copy (drop (suc i) es) c.by_rule.result (c.by_rule.ensures (broken service_layers c.loop-entry.self copy) c.in-Err.ensures.refused) in
-    let same : checked_append book c.args.self.now es ≡ checked_append book c.loop-entry.self (copy ∷ drop (suc i) es) = c.loop-entry.invariant.rest keys ∙ ap (checked_append book c.loop-entry.self) rest in
+    let same : checked_append book 0 c.args.self.now es ≡ checked_append book 0 c.loop-entry.self (copy ∷ drop (suc i) es) = c.loop-entry.invariant.rest keys ∙ ap (checked_append book 0 c.loop-entry.self) rest in
     rw same why
 
 pub loop-entry-preserved : goal.loop-entry-preserved
@@ -32,14 +32,14 @@ loop-entry-preserved c =
     record {
       rest = λ keys.
           let book = ledger_book service_layers keys in
-          c.loop-entry.invariant.rest keys ∙ ap (checked_append book c.loop-entry.self) rest
+          c.loop-entry.invariant.rest keys ∙ ap (checked_append book 0 c.loop-entry.self) rest
           ∙ appended_next keys c.loop-entry.self copy (drop (i + 1) es) c.in_default.ensures.unbroken
-          ∙ ap (λ (l : List Entry). checked_append book l (drop (i + 1) es)) (sym c.in_default.ensures.grown);
+          ∙ ap (λ (l : List Entry). checked_append book 0 l (drop (i + 1) es)) (sym c.in_default.ensures.grown);
       prefix = ap (λ (l : List Entry). take (length c.args.self.now) l) c.in_default.ensures.grown ∙ prefix_kept c.args.self.now c.loop-entry.self copy c.loop-entry.invariant.prefix;
     }
 
 pub returns-clause-appended : goal.returns-clause-appended
 returns-clause-appended c = λ keys.
     c.loop-entry.invariant.rest keys
-    ∙ ap (checked_append (ledger_book service_layers keys) c.loop-entry.self) (none_after c.args.entries.now c.loop-entry.entry-index c.loop-entry-test.false)
+    ∙ ap (checked_append (ledger_book service_layers keys) 0 c.loop-entry.self) (none_after c.args.entries.now c.loop-entry.entry-index c.loop-entry-test.false)
     ∙ appended_none keys c.loop-entry.self

@@ -7,7 +7,7 @@ use Rattle.gl_store_book.proofs.book_ledger.BookLedger.append_each.Given as goal
 -- those so far were appended, and what was there still stands first
 abbrev pub invariant-loop-entry : goal.invariant-loop-entry
 invariant-loop-entry l = record {
-  rest : (keys : NodeKeys) → checked_append (ledger_book service_layers keys) l.fn.self l.entries
-      ≡ checked_append (ledger_book service_layers keys) l.self (drop l.entry-index l.entries);
+  rest : (keys : NodeKeys) → checked_append (ledger_book service_layers keys) 0 l.fn.self l.entries
+      ≡ checked_append (ledger_book service_layers keys) 0 l.self (drop l.entry-index l.entries);
   prefix : take (length l.fn.self) l.self ≡ l.fn.self;
 }

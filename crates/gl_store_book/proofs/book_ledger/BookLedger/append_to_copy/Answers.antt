@@ -8,5 +8,5 @@ use Rattle.gl_store_book.proofs.book_ledger.BookLedger.append_to_copy.Goals as g
 
 pub returns-in-Err-clause-refused : goal.returns-in-Err-clause-refused
 returns-in-Err-clause-refused c = λ keys.
-    subst (λ (es : List Entry). Fails c.in-Err.error (checked_append (ledger_book service_layers keys) es c.args.entries.now))
+    subst (λ (es : List Entry). Fails c.in-Err.error (checked_append (ledger_book service_layers keys) 0 es c.args.entries.now))
     (c.cut.ensures ∙ ap (take c.args.seqno) c.in_ok-copy.ensures) (c.in-Err.ensures.refused keys)

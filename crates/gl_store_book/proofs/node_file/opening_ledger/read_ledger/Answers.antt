@@ -2,8 +2,8 @@ use Rattle.std.proofs.Common.{◌≡◌, ◌-◌, ◌++◌, List, length, take, 
 use Rattle.std.specs.List.{flat_map}
 use Rattle.gl_entry.specs.Entry.{frame_bytes}
 use Rattle.gl_entry.specs.declared.entry.Entry.{Entry}
-use Rattle.gl_ledger.specs.Broken.{is_unopened}
 use Rattle.gl_ledger.specs.Recordings.{last_entry}
+use Rattle.gl_ledger.specs.Past.{is_unopened}
 use Rattle.gl_audit.specs.Committed.{Held}
 use Rattle.gl_store_book.specs.ServiceStart.{start_after}
 use Rattle.gl_store_book.proofs.ServiceStarts.{starts_whole, start_step, frames_grow, before_last}

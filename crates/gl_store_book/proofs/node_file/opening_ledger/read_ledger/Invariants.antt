@@ -1,8 +1,8 @@
 use Rattle.std.proofs.Common.{◌≡◌, ◌-◌, ◌++◌, length, take}
 use Rattle.std.specs.List.{flat_map}
 use Rattle.gl_entry.specs.Entry.{frame_bytes}
-use Rattle.gl_ledger.specs.Broken.{is_unopened}
 use Rattle.gl_ledger.specs.Recordings.{last_entry}
+use Rattle.gl_ledger.specs.Past.{is_unopened}
 use Rattle.gl_store_book.specs.ServiceStart.{start_after, start_in}
 use Rattle.gl_store_book.proofs.node_file.opening_ledger.read_ledger.Given as goal
 

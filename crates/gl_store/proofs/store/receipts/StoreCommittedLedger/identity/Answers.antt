@@ -1,8 +1,6 @@
-use Rattle.std.proofs.Common.{◌≡◌, ℕ, List, Option, IfNone, subst, arith}
+use Rattle.std.proofs.Common.{◌∙◌, sym, ap}
+use Rattle.gl_receipt.specs.Made.{Ledger}
 use Rattle.gl_store.proofs.store.receipts.StoreCommittedLedger.identity.Goals as goal
 
-pub unreachable-requires : goal.unreachable-requires
-unreachable-requires c =
-    let some = c.requires.from_one in
-    let none : c.args.seqno ≡ 0 = subst (λ (o : Option (List ℕ)). IfNone o (c.args.seqno ≡ 0)) c.in_default.is c.key_at.ensures.none in
-    omega (arith, some, none)
+pub returns : goal.returns
+returns c = λ l s. c.identity_at.ensures ∙ sym (ap (λ (m : Ledger). m.identity c.args.seqno) s)

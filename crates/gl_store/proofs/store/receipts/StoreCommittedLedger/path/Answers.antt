@@ -4,6 +4,7 @@ use Rattle.gl_merkle.specs.Path.{path_of}
 use Rattle.gl_ledger.specs.Tree.{leaves_of}
 use Rattle.gl_audit.specs.Committed.{Held}
 use Rattle.gl_audit.proofs.TablesLaws.{count_of_frontier, given_of_frontier}
+use Rattle.gl_receipt.specs.Made.{Ledger}
 use Rattle.gl_store.proofs.store.receipts.StoreCommittedLedger.path.Goals as goal
 
 pub path_of-requires-clause-within : goal.path_of-requires-clause-within
@@ -14,7 +15,8 @@ path_of-requires-clause-within c =
     omega (arith, count, within)
 
 pub returns : goal.returns
-returns c =
+returns c = λ l s.
     let k = c.self.inside in
-    subst (λ (h : Held). Rattle.std.specs.Prelude.IfOk c.path_of.result (λ steps. steps.items ≡ path_of (take c.args.size (leaves_of h.ledger)) c.args.seqno)) c.self.view_is
-    (given_of_frontier k.state.frontier (leaves_of k.entries.items) (λ steps leaves. steps.items ≡ path_of (take c.args.size leaves) c.args.seqno) c.path_of.result c.self.invariant.stands.tree c.path_of.ensures)
+    subst (λ (m : Ledger). Rattle.std.specs.Prelude.IfOk c.path_of.result (λ steps. steps.items ≡ path_of (take c.args.size m.leaves) c.args.seqno)) (sym s)
+    (subst (λ (h : Held). Rattle.std.specs.Prelude.IfOk c.path_of.result (λ steps. steps.items ≡ path_of (take c.args.size (leaves_of h.ledger)) c.args.seqno)) c.self.view_is
+    (given_of_frontier k.state.frontier (leaves_of k.entries.items) (λ steps leaves. steps.items ≡ path_of (take c.args.size leaves) c.args.seqno) c.path_of.result c.self.invariant.stands.tree c.path_of.ensures))

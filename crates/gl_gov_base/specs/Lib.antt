@@ -1,0 +1,4 @@
+pub mod SameBy
+pub mod Alike
+pub mod Law
+pub mod AtBase

@@ -25,10 +25,9 @@ use Rattle.gl_commands.specs.declared.task.Task.{Task}
 use Rattle.gl_commands.specs.declared.task.Task.TheVariants as tasks
 use Rattle.gl_commands.specs.declared.task.WordsFault.TheVariants.{Refused}
 use Rattle.gl_commands.proofs.WordLemmas.{HasKind, some_kind}
-use Rattle.gl_audit.specs.Verdict.{verdict}
-use Rattle.ccfg.specs.Commands.{Does, ReportsFault, TaskDoes}
-use Rattle.ccfg.specs.Exits.{Exits, ExitsBy, ExitsByDisk}
-use Rattle.ccfg.specs.ExpectedOutput.{Output, PrintsFaultPrefix, Shown, WritesOutput, key_kind, leaf_use, output_of, output_of_audit, output_of_dealing, output_of_fault, output_of_receipt, output_of_schedule, uses_disk}
+use Rattle.ccfg.specs.Commands.{Does, ReportsFault, TaskDoes, key_kind, leaf_use, output_of, uses_disk}
+use Rattle.ccfg.specs.Exits.{Exits, ExitsAsDue}
+use Rattle.ccfg.specs.ExpectedOutput.{PrintsFaultPrefix, WritesOutput, output_of_fault}
 use Rattle.ccfg.specs.Faults.{fault_line}
 use Rattle.ccfg.specs.NodeCommand.{NodeDoes}
 use Rattle.ccfg.specs.Nodes.{IsUnserved, KeepsNode}
@@ -40,16 +39,12 @@ use Rattle.ccfg.specs.declared.ending.Ending.{Ending}
 use Rattle.ccfg.specs.declared.ending.Ending.TheVariants as endings
 use Rattle.ccfg.specs.declared.fault.Fault.TheVariants.{TooMuchJson, Words}
 use Rattle.ccfg.proofs.MomentLemmas.{no_key, nothing_done}
-use Rattle.ccfg.proofs.ShownLemmas.{both_any, from_shown}
+use Rattle.ccfg.proofs.ShownLemmas.{due_any}
 
 module _ {S D : Type 0} (r : Run S D) (e : Ending) where
   -- the bytes with which the disk began, and the history with which it ended
   abbrev held : List ℕ
   held = r.disk.bytes r.disk.before
-
-  -- what is due by the bytes of the source alone
-  plain : (expected : List ℕ → Output) → ExitsByDisk r e (λ shown. expected) → ExitsBy r e expected
-  plain expected p = from_shown r.disk.honest held (λ h. ExitsBy r e expected) (ExitsBy r e expected) (λ h q. q) p
 
   -- a leaf that is taken for a use
   takes : (leaf : LeafUse) → IsTrue r.disk.honest →
@@ -78,13 +73,9 @@ module _ {S D : Type 0} (r : Run S D) (e : Ending) where
       (IsTrue r.disk.honest → (leaf : LeafUse) → leaf_use task ≡ Some leaf → IsForeign (opened held) → Leaves (IsImage (r.disk.past r.disk.before)) (r.disk.past r.disk.before) (r.disk.past r.disk.after)) →
       (IsTrue r.disk.honest → (leaf : LeafUse) → leaf_use task ≡ Some leaf → IsForeign (opened held) → (e ≢ endings.DiskFailed) → r.disk.bytes r.disk.after ≡ held) →
       (IsTrue r.disk.honest → (kind : KeyKind) → key_kind task ≡ Some kind → HasNoKey kind (opened held) → r.source.after ≡ r.source.before) →
-      ExitsByDisk r e (output_of task) → TaskDoes task r e
-  task_does tasks.Replay disk accepted kept shown full unread untouched keyed signed spent moved unspent foreign bytes keyless runs =
-      record { exact = plain output_of_schedule runs; disk = record { same = (disk refl).0; never = (disk refl).1 } }
+      ExitsAsDue r e (output_of task) → TaskDoes task r e
   task_does (tasks.Verify identity) disk accepted kept shown full unread untouched keyed signed spent moved unspent foreign bytes keyless runs =
-      record { exact = plain (output_of_receipt identity) runs; accepted = λ done. accepted done identity refl; disk = record { same = (disk refl).0; never = (disk refl).1 } }
-  task_does (tasks.Audit identity) disk accepted kept shown full unread untouched keyed signed spent moved unspent foreign bytes keyless runs =
-      record { exact = plain (λ given. output_of_audit (verdict identity given)) runs; disk = record { same = (disk refl).0; never = (disk refl).1 } }
+      record { exact = runs; accepted = λ done. accepted done identity refl; disk = record { same = (disk refl).0; never = (disk refl).1 } }
   task_does (tasks.Keygen kind types) disk accepted kept shown full unread untouched keyed signed spent moved unspent foreign bytes keyless runs =
       record {
         exact = runs;
@@ -95,8 +86,6 @@ module _ {S D : Type 0} (r : Run S D) (e : Ending) where
         untouched = λ honest is. untouched honest is kind types refl;
         any_moment = λ honest. keyed honest kind types refl;
       }
-  task_does (tasks.Deal threshold members) disk accepted kept shown full unread untouched keyed signed spent moved unspent foreign bytes keyless runs =
-      record { exact = plain (output_of_dealing threshold members) runs; disk = record { same = (disk refl).0; never = (disk refl).1 } }
   task_does (tasks.Sign signing) disk accepted kept shown full unread untouched keyed signed spent moved unspent foreign bytes keyless runs =
       let leaf = use_of signing in
       record {
@@ -112,6 +101,9 @@ module _ {S D : Type 0} (r : Run S D) (e : Ending) where
             (λ yes none. foreign yes Start refl none) (λ yes none other. bytes yes Start refl none other);
         unread = λ honest none. keyless honest Node refl none;
       }
+  -- a task that uses no disk, and of which no more is promised
+  task_does task disk accepted kept shown full unread untouched keyed signed spent moved unspent foreign bytes keyless runs =
+      record { exact = runs; disk = record { same = (disk refl).0; never = (disk refl).1 } }
 
 -- what no run of which memory ran out came to
 not_done : endings.Memory ≡ endings.Done → ⊥
@@ -166,7 +158,7 @@ module _ {S D L : Type 0} (r : Run S D) (link : LinkRun L) (source : r.source.af
       (λ honest leaf is none. same_images)
       (λ honest leaf is none other. ap r.disk.bytes disk)
       (λ honest kind is none. source)
-      (both_any r.disk.honest (r.disk.bytes r.disk.before) r.source.given (λ h g. Exits r endings.Memory (output_of task h g)) (λ h g. prefix (output_of task h g).text))
+      (due_any (output_of task) r.disk.honest (r.disk.bytes r.disk.before) r.source.given (Exits r endings.Memory) (λ o. prefix o.text))
 
   pub nothing_does : (command : Asked) → Does command r link endings.Memory
   nothing_does (asks.Task task) = (no_task task, λ other. faults, same)

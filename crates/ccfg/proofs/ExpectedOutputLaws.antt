@@ -1,6 +1,6 @@
 -- What plans and faults owe, and what a task owes to the bytes of its source, whether the source
 -- tells them or not.
-use Rattle.std.proofs.Common.{◌≡◌, ◌⊎◌, inl, inr, ℕ, ◌<◌, List, [], length, Option, None, Some, Bool, true, nat_lt, if◌then◌else◌, refl, sym, ap, ◌∙◌, subst, arith, length-append}
+use Rattle.std.proofs.Common.{◌≡◌, ◌⊎◌, inl, inr, ℕ, ◌<◌, List, length, Option, None, Some, Bool, true, nat_lt, if◌then◌else◌, refl, sym, ap, ◌∙◌, subst, arith, length-append}
 use Rattle.std.proofs.lemmas.Bool.Decides.{nat_tests}
 use Rattle.std.specs.Io.KnownBytes.{Appends, Consumes, Keeps}
 use Rattle.gl_outside.specs.Sink.{AppendsPrefix}
@@ -21,14 +21,14 @@ use Rattle.gl_commands.specs.declared.task.LoadTask.{LoadTask}
 use Rattle.gl_commands.specs.declared.task.Task.{Task}
 use Rattle.gl_commands.specs.declared.task.Task.TheVariants as tasks
 use Rattle.ccfg.specs.Faults.{fault_line}
-use Rattle.ccfg.specs.Exits.{Exits, ExitsByDisk}
+use Rattle.ccfg.specs.Exits.{Exits, ExitsAsDue}
 use Rattle.ccfg.specs.Run.{Run}
 use Rattle.ccfg.specs.VerifyCommand.{PrintsAccepted}
-use Rattle.ccfg.specs.ExpectedOutput.{EndsSource, Output, PrintsFaultPrefix, Shown, WritesOutput, Written, bytes_limit, ending_of_fault, ending_of_stop, json_limit, ledger_line, lines_limit, output_of_answer, output_of_audit, output_of_fault, output_of_form, output_of_load, output_of_reading, output_of_receipt, output_of_schedule, report_text, requests_limit, valid_line}
+use Rattle.ccfg.specs.ExpectedOutput.{Due, EndsSource, OfDue, Output, PrintsFaultPrefix, WritesOutput, Written, bytes_limit, ending_of_fault, ending_of_stop, json_limit, ledger_line, lines_limit, output_of_answer, output_of_audit, output_of_fault, output_of_form, output_of_load, output_of_reading, output_of_receipt, output_of_schedule, report_text, requests_limit, valid_line}
 use Rattle.ccfg.specs.Plans.{KeepsKey, SpendsLeaf, PrintsFault, PrintsSpent, ShowsAccepted, ShowsKept, output_of_plan}
 use Rattle.ccfg.specs.declared.plan.PlanError.{PlanError}
 use Rattle.ccfg.specs.declared.plan.PlanError.TheVariants as stops
-use Rattle.ccfg.proofs.ShownLemmas.{OfBoth, both_any, both_map, from_given, of_map}
+use Rattle.ccfg.proofs.ShownLemmas.{due_any, due_map, from_given, of_map}
 use Rattle.gl_journal.specs.declared.key.KeyKind.{KeyKind}
 use Rattle.gl_keyfile.specs.declared.leaf.LeafUse.{LeafUse}
 use Rattle.gl_hss.specs.declared.types.Types.{Types}
@@ -40,23 +40,6 @@ use Rattle.gl_schedule.specs.Schedules.{reads}
 
 -- a fault that is reported
 pub writes_fault : (fault : Fault) (w : Written) → Appends w.held w.holds (fault_line fault) → WritesOutput (ending_of_fault fault) w (output_of_fault fault)
-writes_fault (faults.Words kind) w all = (refl, all)
-writes_fault faults.TooManyBytes w all = (refl, all)
-writes_fault faults.TooManyLines w all = (refl, all)
-writes_fault faults.TooManyRequests w all = (refl, all)
-writes_fault faults.TooMuchJson w all = (refl, all)
-writes_fault (faults.BadLine number) w all = (refl, all)
-writes_fault (faults.Form fault) w all = (refl, all)
-writes_fault (faults.NotValid fault) w all = (refl, all)
-writes_fault (faults.Broken seqno rule) w all = (refl, all)
-writes_fault (faults.Foreign identity) w all = (refl, all)
-writes_fault (faults.NotEmpty len) w all = (refl, all)
-writes_fault (faults.Short at) w all = (refl, all)
-writes_fault (faults.Trailing at) w all = (refl, all)
-writes_fault (faults.Journal fault) w all = (refl, all)
-writes_fault (faults.KeyKind want got) w all = (refl, all)
-writes_fault faults.BadDealing w all = (refl, all)
-writes_fault (faults.Signing fault) w all = (refl, all)
 writes_fault (faults.Recovering recoverings.SourceFailed) w all = (refl, all)
 writes_fault (faults.Recovering recoverings.TooMuchJson) w all = (refl, all)
 writes_fault (faults.Recovering (recoverings.Short at)) w all = (refl, all)
@@ -65,8 +48,7 @@ writes_fault (faults.Recovering (recoverings.NotFirstNode want got)) w all = (re
 writes_fault (faults.Recovering (recoverings.KeyExhausted reserved)) w all = (refl, all)
 writes_fault (faults.Recovering (recoverings.Recovery fault)) w all = (refl, all)
 writes_fault (faults.Recovering recoverings.DiskFailed) w all = (refl, all)
-writes_fault (faults.Opening fault) w all = (refl, all)
-writes_fault (faults.Turns turns) w all = (refl, all)
+writes_fault fault w all = (refl, all)
 
 -- bytes of which more were read than the limit
 pub of_more : (old new : Option (List ℕ)) (text : List ℕ) (limit : ℕ) → Consumes old new text → limit < length text → OfBytes old (λ g. limit < length g)
@@ -74,26 +56,22 @@ of_more None new text limit taken more = (text, more)
 of_more (Some g) (Some rest) text limit taken more = omega (arith, more, ap length taken, length-append text rest)
 of_more (Some g) None text limit taken more = absurd taken
 
-long_schedule : (given : List ℕ) → bytes_limit < length given → output_of_schedule given ≡ output_of_fault faults.TooManyBytes
-unfolding output_of_schedule
-long_schedule given more =
-    ap (λ (b : Bool). if b then output_of_fault faults.TooManyBytes
-    else (if nat_lt lines_limit (line_count given) then output_of_fault faults.TooManyLines else output_of_reading (reads given)))
-    (let t : nat_lt bytes_limit (length given) ≡ true = grind (arith, nat_tests) in t)
-
-long_receipt : (identity given : List ℕ) → json_limit < length given → output_of_receipt identity given ≡ output_of_fault faults.TooMuchJson
-unfolding output_of_receipt
-long_receipt identity given more =
-    ap (λ (b : Bool). if b then output_of_fault faults.TooMuchJson else output_of_form identity (receipt_from given))
-    (let t : nat_lt json_limit (length given) ≡ true = grind (arith, nat_tests) in t)
-
 -- more bytes than a limit
+pub past_limit : (limit : ℕ) (fault : Fault) (due : List ℕ → Output) (given : Option (List ℕ)) → OfBytes given (λ g. limit < length g) →
+    OfBytes given (λ g. (if nat_lt limit (length g) then output_of_fault fault else due g) ≡ output_of_fault fault)
+past_limit limit fault due given more =
+    of_map given (λ g. limit < length g) (λ g. (if nat_lt limit (length g) then output_of_fault fault else due g) ≡ output_of_fault fault)
+    (λ g long. ap (λ (b : Bool). if b then output_of_fault fault else due g) (let t : nat_lt limit (length g) ≡ true = grind (arith, nat_tests) in t)) more
+
 pub long_schedules : (given : Option (List ℕ)) → OfBytes given (λ g. bytes_limit < length g) → OfBytes given (λ g. output_of_schedule g ≡ output_of_fault faults.TooManyBytes)
-long_schedules given more = of_map given (λ g. bytes_limit < length g) (λ g. output_of_schedule g ≡ output_of_fault faults.TooManyBytes) long_schedule more
+unfolding output_of_schedule
+long_schedules given more =
+    past_limit bytes_limit faults.TooManyBytes (λ g. if nat_lt lines_limit (line_count g) then output_of_fault faults.TooManyLines else output_of_reading (reads g)) given more
 
 pub long_receipts : (identity : List ℕ) (given : Option (List ℕ)) → OfBytes given (λ g. json_limit < length g) →
     OfBytes given (λ g. output_of_receipt identity g ≡ output_of_fault faults.TooMuchJson)
-long_receipts identity given more = of_map given (λ g. json_limit < length g) (λ g. output_of_receipt identity g ≡ output_of_fault faults.TooMuchJson) (long_receipt identity) more
+unfolding output_of_receipt
+long_receipts identity given more = past_limit json_limit faults.TooMuchJson (λ g. output_of_form identity (receipt_from g)) given more
 
 -- more requests than the limit
 many_requests : (load : LoadTask) → requests_limit < load.count → output_of_load load ≡ output_of_fault faults.TooManyRequests
@@ -110,38 +88,7 @@ pub verdict_output : (identity : List ℕ) (given : Option (List ℕ)) (printed 
 verdict_output identity given printed output is same =
     of_map given (λ g. printed ≡ verdict_on identity g) (λ g. output_of_audit (verdict_on identity g) ≡ output) (λ g v. ap output_of_audit (sym v) ∙ same) is
 
--- a fault shows nothing
-pub sound_refusal : (task : Task) (given : List ℕ) (fault : Fault) → ShowsAccepted task given (Refuse fault)
-sound_refusal tasks.Replay given fault = tt
-sound_refusal (tasks.Verify identity) given fault = tt
-sound_refusal (tasks.Audit identity) given fault = tt
-sound_refusal (tasks.Keygen kind types) given fault = tt
-sound_refusal (tasks.Deal threshold members) given fault = tt
-sound_refusal (tasks.Sign signing) given fault = tt
-sound_refusal tasks.Recover given fault = tt
-
-pub of_sound_refusal : (task : Task) (given : Option (List ℕ)) (fault : Fault) → OfBytes given (λ g. ShowsAccepted task g (Refuse fault))
-of_sound_refusal task None fault = ([], sound_refusal task [] fault)
-of_sound_refusal task (Some g) fault = sound_refusal task g fault
-
 no_fault_done : (fault : Fault) → ending_of_fault fault ≡ endings.Done → ⊥
-no_fault_done (faults.Words kind) is = cc
-no_fault_done faults.TooManyBytes is = cc
-no_fault_done faults.TooManyLines is = cc
-no_fault_done faults.TooManyRequests is = cc
-no_fault_done faults.TooMuchJson is = cc
-no_fault_done (faults.BadLine number) is = cc
-no_fault_done (faults.Form fault) is = cc
-no_fault_done (faults.NotValid fault) is = cc
-no_fault_done (faults.Broken seqno rule) is = cc
-no_fault_done (faults.Foreign identity) is = cc
-no_fault_done (faults.NotEmpty len) is = cc
-no_fault_done (faults.Short at) is = cc
-no_fault_done (faults.Trailing at) is = cc
-no_fault_done (faults.Journal fault) is = cc
-no_fault_done (faults.KeyKind want got) is = cc
-no_fault_done faults.BadDealing is = cc
-no_fault_done (faults.Signing fault) is = cc
 no_fault_done (faults.Recovering recoverings.SourceFailed) is = cc
 no_fault_done (faults.Recovering recoverings.TooMuchJson) is = cc
 no_fault_done (faults.Recovering (recoverings.Short at)) is = cc
@@ -150,8 +97,7 @@ no_fault_done (faults.Recovering (recoverings.NotFirstNode want got)) is = cc
 no_fault_done (faults.Recovering (recoverings.KeyExhausted reserved)) is = cc
 no_fault_done (faults.Recovering (recoverings.Recovery fault)) is = cc
 no_fault_done (faults.Recovering recoverings.DiskFailed) is = cc
-no_fault_done (faults.Opening fault) is = cc
-no_fault_done (faults.Turns turns) is = cc
+no_fault_done fault is = cc
 
 -- a plan that was carried out under a key
 accepted_by : (identity : List ℕ) (plan : Plan) (w : Written) (g : List ℕ) → ShowsAccepted (tasks.Verify identity) g plan → WritesOutput endings.Done w (output_of_plan plan) → PrintsAccepted identity g w.held w.holds
@@ -221,13 +167,12 @@ exits_so r endings.Memory plan ends writes = writes
 exits_so r endings.PastLimit plan ends writes = (ends, writes)
 exits_so r endings.NoReading plan ends writes = (ends, writes)
 
--- a run that does the expected output of the bytes
-pub output_runs : {S D : Type 0} (r : Run S D) (expected : Shown → List ℕ → Output) (e : Ending) (plan : Plan) →
-    OfBoth r.disk.honest (r.disk.bytes r.disk.before) r.source.given (λ h g. expected h g ≡ output_of_plan plan) →
-    EndsSource (output_of_plan plan) r.source.ended → WritesOutput e r.sink (output_of_plan plan) → ExitsByDisk r e expected
-output_runs r expected e plan is ends writes =
-    both_map r.disk.honest (r.disk.bytes r.disk.before) r.source.given (λ h g. expected h g ≡ output_of_plan plan) (λ h g. Exits r e (expected h g))
-    (λ h g same. subst (Exits r e) (sym same) (exits_so r e plan ends writes)) is
+-- a run that does what is due
+pub output_runs : {S D : Type 0} (r : Run S D) (due : Due) (e : Ending) (plan : Plan) →
+    OfDue due r.disk.honest (r.disk.bytes r.disk.before) r.source.given (λ o. o ≡ output_of_plan plan) →
+    EndsSource (output_of_plan plan) r.source.ended → WritesOutput e r.sink (output_of_plan plan) → ExitsAsDue r e due
+output_runs r due e plan is ends writes =
+    due_map due r.disk.honest (r.disk.bytes r.disk.before) r.source.given (λ o. o ≡ output_of_plan plan) (Exits r e) (λ o same. subst (Exits r e) (sym same) (exits_so r e plan ends writes)) is
 
 -- a run that came to no plan
 stops_as : {S D : Type 0} (r : Run S D) (output : Output) (stop : PlanError) → (stop ≡ stops.SourceFailed → Rose r.source.faults r.source.faults_now) →
@@ -237,11 +182,11 @@ stops_as r output stops.Memory source disk keeps prefix = prefix output.text
 stops_as r output stops.SourceFailed source disk keeps prefix = (source refl, keeps)
 stops_as r output stops.DiskFailed source disk keeps prefix = (disk refl, keeps)
 
-pub stop_runs : {S D : Type 0} (r : Run S D) (expected : Shown → List ℕ → Output) (stop : PlanError) → (stop ≡ stops.SourceFailed → Rose r.source.faults r.source.faults_now) →
+pub stop_runs : {S D : Type 0} (r : Run S D) (due : Due) (stop : PlanError) → (stop ≡ stops.SourceFailed → Rose r.source.faults r.source.faults_now) →
     (stop ≡ stops.DiskFailed → Rose (r.disk.faults r.disk.before) (r.disk.faults r.disk.after)) → Keeps r.sink.held r.sink.holds →
-    ((text : List ℕ) → AppendsPrefix r.sink.held r.sink.holds text) → ExitsByDisk r (ending_of_stop stop) expected
-stop_runs r expected stop source disk keeps prefix =
-    both_any r.disk.honest (r.disk.bytes r.disk.before) r.source.given (λ h g. Exits r (ending_of_stop stop) (expected h g)) (λ h g. stops_as r (expected h g) stop source disk keeps prefix)
+    ((text : List ℕ) → AppendsPrefix r.sink.held r.sink.holds text) → ExitsAsDue r (ending_of_stop stop) due
+stop_runs r due stop source disk keeps prefix =
+    due_any due r.disk.honest (r.disk.bytes r.disk.before) r.source.given (Exits r (ending_of_stop stop)) (λ o. stops_as r o stop source disk keeps prefix)
 
 -- how a run ends
 pub as_due : {S D : Type 0} (r : Run S D) (e : Ending) (output : Output) → Exits r e output → (e ≡ output.ending) ⊎ (e ≡ endings.SourceFailed) ⊎ (e ≡ endings.SinkFailed) ⊎ (e ≡ endings.DiskFailed) ⊎ (e ≡ endings.Memory)

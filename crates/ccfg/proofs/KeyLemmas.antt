@@ -6,9 +6,7 @@ use Rattle.gl_journal.specs.declared.key.Key.{Key}
 use Rattle.gl_journal.specs.declared.key.KeyKind.{KeyKind}
 use Rattle.gl_hss.specs.declared.types.Types.{Types}
 use Rattle.ccfg.specs.declared.fault.Fault.TheVariants as faults
-use Rattle.gl_commands.specs.declared.task.Task.{Task}
-use Rattle.gl_commands.specs.declared.task.Task.TheVariants.{Keygen}
-use Rattle.ccfg.specs.ExpectedOutput.{Output, OfShown, Shown, output_of, shown_by, output_of_answer, output_of_fault, output_of_seed, key_line, on_empty, seed_len}
+use Rattle.ccfg.specs.ExpectedOutput.{Output, OfShown, Shown, shown_by, output_of_answer, output_of_fault, output_of_seed, key_line, on_empty, seed_len}
 use Rattle.gl_base.specs.declared.or_no_memory.OrNoMemory.{OrNoMemory}
 use Rattle.gl_base.specs.declared.or_no_memory.OrNoMemory.TheVariants.{Fault as fault_of}
 use Rattle.gl_journal.specs.declared.fault.JournalFault.TheVariants.{NotEmpty, NotJournal}
@@ -133,9 +131,3 @@ seed_expected_all honest held given kind types text seed r whole same long p =
 pub whole_as : (given : Option (List ℕ)) (text other : List ℕ) → other ≡ text → IfSome given (λ g. text ≡ g) → IfSome given (λ g. other ≡ g)
 whole_as None text other same whole = tt
 whole_as (Some g) text other same whole = same ∙ whole
-
--- a task that begins a key
-pub task_output : (task : Task) (kind : KeyKind) (types : Types) (honest : Bool) (held : List ℕ) (given : Option (List ℕ)) (r : Result Plan PlanError) → task ≡ Keygen kind types →
-    IfOk r (λ plan. OfShown honest held (λ h. OfBytes given (λ g. on_empty h.len (output_of_seed kind types g) ≡ output_of_plan plan))) → IfOk r (λ plan. OfShown honest held (λ h. OfBytes given (λ g. output_of task h g ≡ output_of_plan plan)))
-task_output task kind types honest held given r is output =
-    subst (λ (t : Task). IfOk r (λ plan. OfShown honest held (λ h. OfBytes given (λ g. output_of t h g ≡ output_of_plan plan)))) (sym is) output

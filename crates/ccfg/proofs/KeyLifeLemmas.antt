@@ -293,13 +293,10 @@ module _ {S D : Type 0} (key : Key) (spent : ℕ) (r : Run S D) (b : BeginsWithK
   has_bytes bytes gate = let long = ap length gate.parts.split in omega (arith, long)
 
   task_keeps : (task : Task) (e : Ending) → TaskDoes task r e → Keeps
-  task_keeps tasks.Replay e does = same_moments (ap r.disk.past does.disk.same)
-  task_keeps (tasks.Verify identity) e does = same_moments (ap r.disk.past does.disk.same)
-  task_keeps (tasks.Audit identity) e does = same_moments (ap r.disk.past does.disk.same)
   task_keeps (tasks.Keygen kind types) e does = same_moments (does.not_empty b.honest (has_bytes (r.disk.bytes r.disk.before) b.holds.gate)).past
-  task_keeps (tasks.Deal threshold members) e does = same_moments (ap r.disk.past does.disk.same)
   task_keeps (tasks.Sign signing) e does = signing_keeps (use_of signing) e (does.leaf b.honest)
   task_keeps tasks.Recover e does = signing_keeps Start e (does.leaf b.honest)
+  task_keeps task e does = same_moments (ap r.disk.past does.disk.same)
 
   module _ {L : Type 0} (link : LinkRun L) (e : Ending) where
     run_keeps : (asked : Asked) → Does asked r link e → Keeps
@@ -308,13 +305,9 @@ module _ {S D : Type 0} (key : Key) (spent : ℕ) (r : Run S D) (b : BeginsWithK
     run_keeps (asks.Node node) does = node_keeps node link e does.0
 
     task_tells : (task : Task) (told : List ℕ) → TaskDoes task r e → Tells (asks.Task task) r link e told → Telling key spent after told
-    task_tells tasks.Replay told does tells = none_told key spent after told tells
-    task_tells (tasks.Verify identity) told does tells = none_told key spent after told tells
-    task_tells (tasks.Audit identity) told does tells = none_told key spent after told tells
-    task_tells (tasks.Keygen kind types) told does tells = none_told key spent after told tells
-    task_tells (tasks.Deal threshold members) told does tells = none_told key spent after told tells
     task_tells (tasks.Sign signing) told does tells = signing_tells (use_of signing) e told (does.leaf b.honest) tells
     task_tells tasks.Recover told does tells = signing_tells Start e told (does.leaf b.honest) tells
+    task_tells task told does tells = none_told key spent after told tells
 
     run_tells : (asked : Asked) (told : List ℕ) → Does asked r link e → Tells asked r link e told → Telling key spent after told
     run_tells (asks.Task task) told does tells = task_tells task told does.0 tells

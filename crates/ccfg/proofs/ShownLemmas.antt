@@ -1,12 +1,8 @@
 -- What is said of what a disk shows, whether it is honest or not, and of the bytes that a source
 -- gives.
-use Rattle.std.proofs.Common.{◌≡◌, ℕ, List, [], Bool, true, false, Option, None, Some, IfSome, Result, Ok, Err, IfOk, subst, ap, ◌∙◌}
+use Rattle.std.proofs.Common.{◌≡◌, ℕ, List, [], Bool, true, false, Option, None, Some, IfSome, Result, Ok, Err, IfOk, subst, ap}
 use Rattle.gl_entry.specs.SourceBytes.{OfBytes}
-use Rattle.ccfg.specs.ExpectedOutput.{OfShown, Output, Shown, output_of, shown_by}
-use Rattle.ccfg.specs.Plans.{output_of_plan}
-use Rattle.ccfg.specs.declared.plan.Plan.{Plan}
-use Rattle.ccfg.specs.declared.plan.PlanError.{PlanError}
-use Rattle.gl_commands.specs.declared.task.Task.{Task}
+use Rattle.ccfg.specs.ExpectedOutput.{ByDisk, BySource, Due, OfDue, OfShown, Output, Shown, shown_by}
 
 -- what holds of the bytes that a source gives, from what else does
 pub of_map : (given : Option (List ℕ)) (P Q : List ℕ → Type 0) → ((g : List ℕ) → P g → Q g) → OfBytes given P → OfBytes given Q
@@ -36,25 +32,21 @@ shown_any false held P f = (shown_by [], f (shown_by []))
 pub whatever_shown : (honest : Bool) (held : List ℕ) (X : Type 0) → X → OfShown honest held (λ h. X)
 whatever_shown honest held X x = shown_any honest held (λ h. X) (λ h. x)
 
--- of both
-abbrev pub OfBoth : Bool → List ℕ → Option (List ℕ) → (Shown → List ℕ → Type 0) → Type 0
-OfBoth honest held given P = OfShown honest held (λ h. OfBytes given (λ g. P h g))
+-- of what is due
+pub due_map : (due : Due) (honest : Bool) (held : List ℕ) (given : Option (List ℕ)) (P Q : Output → Type 0) → ((o : Output) → P o → Q o) → OfDue due honest held given P → OfDue due honest held given Q
+due_map (BySource output) honest held given P Q f p = of_map given (λ g. P (output g)) (λ g. Q (output g)) (λ g q. f (output g) q) p
+due_map (ByDisk output) honest held given P Q f p =
+    shown_map honest held (λ h. OfBytes given (λ g. P (output h g))) (λ h. OfBytes given (λ g. Q (output h g)))
+    (λ h q. of_map given (λ g. P (output h g)) (λ g. Q (output h g)) (λ g r. f (output h g) r) q) p
 
-pub both_map : (honest : Bool) (held : List ℕ) (given : Option (List ℕ)) (P Q : Shown → List ℕ → Type 0) → ((h : Shown) (g : List ℕ) → P h g → Q h g) → OfBoth honest held given P → OfBoth honest held given Q
-both_map honest held given P Q f p =
-    shown_map honest held (λ h. OfBytes given (λ g. P h g)) (λ h. OfBytes given (λ g. Q h g)) (λ h q. of_map given (P h) (Q h) (f h) q) p
-
-pub both_any : (honest : Bool) (held : List ℕ) (given : Option (List ℕ)) (P : Shown → List ℕ → Type 0) → ((h : Shown) (g : List ℕ) → P h g) → OfBoth honest held given P
-both_any honest held given P f = shown_any honest held (λ h. OfBytes given (λ g. P h g)) (λ h. of_any given (P h) (f h))
+pub due_any : (due : Due) (honest : Bool) (held : List ℕ) (given : Option (List ℕ)) (P : Output → Type 0) → ((o : Output) → P o) → OfDue due honest held given P
+due_any (BySource output) honest held given P f = of_any given (λ g. P (output g)) (λ g. f (output g))
+due_any (ByDisk output) honest held given P f = shown_any honest held (λ h. OfBytes given (λ g. P (output h g))) (λ h. of_any given (λ g. P (output h g)) (λ g. f (output h g)))
 
 -- what follows of all of them
 pub from_given : (given : Option (List ℕ)) (P : List ℕ → Type 0) (Q : Type 0) → ((g : List ℕ) → P g → Q) → OfBytes given P → Q
 from_given None P Q f p = f p.0 p.1
 from_given (Some g) P Q f p = f g p
-
-pub from_shown : (honest : Bool) (held : List ℕ) (P : Shown → Type 0) (Q : Type 0) → ((h : Shown) → P h → Q) → OfShown honest held P → Q
-from_shown true held P Q f p = f (shown_by held) p
-from_shown false held P Q f p = f p.0 p.1
 
 -- what holds where a call succeeds, from what else does
 pub ok_map : {T E : Type 0} (r : Result T E) (P Q : T → Type 0) → ((t : T) → P t → Q t) → IfOk r P → IfOk r Q
@@ -72,11 +64,3 @@ shown_ok honest held r P p = ok_map r P (λ t. OfShown honest held (λ h. P t)) 
 -- what holds at the value of a call that succeeded
 pub at_ok : {T E : Type 0} (r : Result T E) (t : T) (P : T → Type 0) → r ≡ Ok t → IfOk r P → P t
 at_ok r t P is p = let Q : Result _ _ → Type 0 = λ x. IfOk x P in subst Q is p
-
--- what a task owes that uses no disk
-pub diskless_output : (task plain : Task) (expected_output : List ℕ → Output) (honest : Bool) (held : List ℕ) (given : Option (List ℕ)) (r : Result Plan PlanError) → task ≡ plain → ((h : Shown) (g : List ℕ) → output_of plain h g ≡ expected_output g) →
-    IfOk r (λ plan. OfBytes given (λ g. expected_output g ≡ output_of_plan plan)) → IfOk r (λ plan. OfShown honest held (λ h. OfBytes given (λ g. output_of task h g ≡ output_of_plan plan)))
-diskless_output task plain expected_output honest held given r is same output =
-    ok_map r (λ plan. OfBytes given (λ g. expected_output g ≡ output_of_plan plan)) (λ plan. OfShown honest held (λ h. OfBytes given (λ g. output_of task h g ≡ output_of_plan plan)))
-    (λ plan owes. shown_any honest held (λ h. OfBytes given (λ g. output_of task h g ≡ output_of_plan plan))
-    (λ h. of_map given (λ g. expected_output g ≡ output_of_plan plan) (λ g. output_of task h g ≡ output_of_plan plan) (λ g o. ap (λ (t : Task). output_of t h g) is ∙ same h g ∙ o) owes)) output

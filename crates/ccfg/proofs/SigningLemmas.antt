@@ -13,7 +13,6 @@ use Rattle.gl_journal.specs.declared.fault.JournalFault.TheVariants.{DiskFault}
 use Rattle.gl_journal.specs.declared.key.KeyKind.{KeyKind}
 use Rattle.gl_journal.specs.declared.key.KeyKind.TheVariants.{Service, Node, Member}
 use Rattle.gl_store_book.specs.NodeFile.{opened}
-use Rattle.gl_keyfile.specs.SigningRequest.{kind_of}
 use Rattle.gl_keyfile.specs.declared.fault.KeyFileFault.{KeyFileFault}
 use Rattle.gl_keyfile.specs.declared.fault.KeyFileFault.TheVariants.{Journal, KeyKind as KeyKindOf}
 use Rattle.gl_keyfile.specs.declared.leaf.LeafUse.{LeafUse}
@@ -24,12 +23,10 @@ use Rattle.ccfg.specs.declared.fault.Fault.TheVariants as faults
 use Rattle.ccfg.specs.declared.plan.Plan.{Plan}
 use Rattle.ccfg.specs.declared.plan.Plan.TheVariants.{Play, Show, ShowLedger, Print, Refuse}
 use Rattle.ccfg.specs.declared.plan.PlanError.{PlanError}
-use Rattle.gl_commands.specs.declared.task.Task.{Task}
-use Rattle.gl_commands.specs.declared.task.Task.TheVariants.{Recover, Sign}
 use Rattle.ccfg.specs.Plans.{OpensAsBefore, PlansPlayable, PrintsFault, PrintsSpent, PrintsUnopened, output_of_plan}
 use Rattle.ccfg.specs.SignCommand.{HasNoKey, IsForeign}
 use Rattle.ccfg.proofs.ShownLemmas.{of_any, of_map, ok_map}
-use Rattle.ccfg.specs.ExpectedOutput.{EndsSource, OfShown, Output, Shown, is_kind, json_limit, output_of, output_of_fault, output_of_recovering, output_of_signed, output_of_signing, output_of_text, output_with_key}
+use Rattle.ccfg.specs.ExpectedOutput.{EndsSource, OfShown, Output, Shown, is_kind, json_limit, output_of_fault, output_of_signed, output_of_text, output_with_key}
 
 abbrev pub text_output : Signing → Durable → List ℕ → Bool → Result (List ℕ) SigningFault → Output
 text_output signing state given long signed = if long then output_of_fault faults.TooMuchJson else output_of_signed signed
@@ -90,18 +87,6 @@ unsigned_text signing state text fault (Err stop) within is output printed = tt
 -- more bytes than the limit
 pub long_texts : (signing : Signing) (state : Durable) (given : Option (List ℕ)) → OfBytes given (λ g. json_limit < length g) → OfBytes given (λ g. output_of_text signing state g ≡ output_of_fault faults.TooMuchJson)
 long_texts signing state given more = of_map given (λ g. json_limit < length g) (λ g. output_of_text signing state g ≡ output_of_fault faults.TooMuchJson) (long_text signing state) more
-
--- a task that signs
-pub signing_output : (task : Task) (signing : Signing) (honest : Bool) (held : List ℕ) (given : Option (List ℕ)) (r : Result Plan PlanError) → task ≡ Sign signing →
-    IfOk r (λ plan. OfShown honest held (λ h. OfBytes given (λ g. output_of_signing signing h.opens g ≡ output_of_plan plan))) → IfOk r (λ plan. OfShown honest held (λ h. OfBytes given (λ g. output_of task h g ≡ output_of_plan plan)))
-signing_output task signing honest held given r is output =
-    subst (λ (t : Task). IfOk r (λ plan. OfShown honest held (λ h. OfBytes given (λ g. output_of t h g ≡ output_of_plan plan)))) (sym is) output
-
--- the task that recovers a service
-pub recover_output : (task : Task) (honest : Bool) (held : List ℕ) (given : Option (List ℕ)) (r : Result Plan PlanError) → task ≡ Recover →
-    IfOk r (λ plan. OfShown honest held (λ h. OfBytes given (λ g. output_of_recovering h.opens g ≡ output_of_plan plan))) → IfOk r (λ plan. OfShown honest held (λ h. OfBytes given (λ g. output_of task h g ≡ output_of_plan plan)))
-recover_output task honest held given r is output =
-    subst (λ (t : Task). IfOk r (λ plan. OfShown honest held (λ h. OfBytes given (λ g. output_of t h g ≡ output_of_plan plan)))) (sym is) output
 
 -- what a disk shows that opens so
 abbrev shows : Result Durable JournalFault → Shown

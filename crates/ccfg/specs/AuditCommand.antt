@@ -6,6 +6,7 @@ use Rattle.ccfg.specs.Exits.{ExitsBy}
 use Rattle.ccfg.specs.Run.{LeavesDisk, Run}
 use Rattle.ccfg.specs.declared.ending.Ending.{Ending}
 
+-- The run of an audit, with the key that is wanted.
 pub record AuditDoes {S D : Type 0} (identity : List ℕ) (r : Run S D) (e : Ending) : Type 0 where
   -- It ends, and writes, by the verdict on the bytes.
   pub exact : ExitsBy r e (λ given. output_of_audit (verdict identity given))

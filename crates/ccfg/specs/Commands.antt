@@ -1,10 +1,10 @@
 -- What the program does, by what its words ask for. Each command has its file.
-use Rattle.std.specs.Prelude.{◌≡◌, ◌≢◌}
+use Rattle.std.specs.Prelude.{◌≡◌, ◌≢◌, Option, None, Some, Bool, true, false}
 use Rattle.clap.specs.Kinds.{Kinds, IsAmong}
 use Rattle.clap.specs.declared.error.kind.ErrorKind.{ErrorKind}
 use Rattle.ccfg.specs.AuditCommand.{AuditDoes}
 use Rattle.ccfg.specs.DealCommand.{DealDoes}
-use Rattle.ccfg.specs.ExpectedOutput.{WritesOutput, output_of_fault}
+use Rattle.ccfg.specs.ExpectedOutput.{Due, BySource, ByDisk, WritesOutput, on_empty, output_of_audit, output_of_dealing, output_of_fault, output_of_receipt, output_of_recovering, output_of_schedule, output_of_seed, output_of_signing}
 use Rattle.ccfg.specs.KeygenCommand.{KeygenDoes}
 use Rattle.ccfg.specs.LoadCommand.{LoadDoes}
 use Rattle.ccfg.specs.NodeCommand.{NodeDoes}
@@ -16,10 +16,57 @@ use Rattle.ccfg.specs.VerifyCommand.{VerifyDoes}
 use Rattle.ccfg.specs.declared.ending.Ending.{Ending}
 use Rattle.ccfg.specs.declared.ending.Ending.TheVariants.{LinkFailed, SourceFailed}
 use Rattle.ccfg.specs.declared.fault.Fault.TheVariants.{Words}
+use Rattle.gl_audit.specs.Verdict.{verdict}
 use Rattle.gl_commands.specs.declared.task.Asked.{Asked}
 use Rattle.gl_commands.specs.declared.task.Asked.TheVariants as asks
 use Rattle.gl_commands.specs.declared.task.Task.{Task}
 use Rattle.gl_commands.specs.declared.task.Task.TheVariants as tasks
+use Rattle.gl_journal.specs.declared.key.KeyKind.{KeyKind}
+use Rattle.gl_journal.specs.declared.key.KeyKind.TheVariants.{Node}
+use Rattle.gl_keyfile.specs.SigningRequest.{kind_of, use_of}
+use Rattle.gl_keyfile.specs.declared.leaf.LeafUse.{LeafUse}
+use Rattle.gl_keyfile.specs.declared.leaf.LeafUse.TheVariants.{Start}
+
+-- What is due to a task. A key is begun on an empty disk alone, and one that is there signs; that
+-- is tried before the source. The other tasks use no disk.
+abbrev pub output_of : Task → Due
+output_of tasks.Replay = BySource output_of_schedule
+output_of (tasks.Verify identity) = BySource (output_of_receipt identity)
+output_of (tasks.Audit identity) = BySource (λ given. output_of_audit (verdict identity given))
+output_of (tasks.Keygen kind types) =
+    ByDisk (λ shown given. on_empty shown.len (output_of_seed kind types given))
+output_of (tasks.Deal threshold members) = BySource (output_of_dealing threshold members)
+output_of (tasks.Sign signing) = ByDisk (λ shown. output_of_signing signing shown.opens)
+output_of tasks.Recover = ByDisk (λ shown. output_of_recovering shown.opens)
+
+-- Whether what is due depends on what the disk shows.
+abbrev pub is_by_disk : Due → Bool
+is_by_disk (BySource output) = false
+is_by_disk (ByDisk output) = true
+
+-- A task uses the disk where it does.
+abbrev pub uses_disk : Task → Bool
+uses_disk task = is_by_disk (output_of task)
+
+-- For which use a task takes the next leaf of the key of the disk's file, if it takes one.
+abbrev pub leaf_use : Task → Option LeafUse
+leaf_use tasks.Replay = None
+leaf_use (tasks.Verify identity) = None
+leaf_use (tasks.Audit identity) = None
+leaf_use (tasks.Keygen kind types) = None
+leaf_use (tasks.Deal threshold members) = None
+leaf_use (tasks.Sign signing) = Some (use_of signing)
+leaf_use tasks.Recover = Some Start
+
+-- Of which kind the key of the disk's file has to be, if a task uses one.
+abbrev pub key_kind : Task → Option KeyKind
+key_kind tasks.Replay = None
+key_kind (tasks.Verify identity) = None
+key_kind (tasks.Audit identity) = None
+key_kind (tasks.Keygen kind types) = None
+key_kind (tasks.Deal threshold members) = None
+key_kind (tasks.Sign signing) = Some (kind_of signing)
+key_kind tasks.Recover = Some Node
 
 -- A command that uses no link.
 abbrev pub TaskDoes : {S D : Type 0} → Task → Run S D → Ending → Type 0

@@ -11,6 +11,7 @@ use Rattle.gl_consortium.specs.declared.fault.SigningFault.{SigningFault}
 use Rattle.gl_consortium.specs.declared.fault.SigningFault.TheVariants as signings
 use Rattle.gl_consortium.specs.Dealt.{deal_text, dealt}
 use Rattle.gl_consortium.specs.Members.{can_deal}
+use Rattle.gl_entry.specs.SourceBytes.{OfBytes}
 use Rattle.gl_forms.specs.Key.{key_tree}
 use Rattle.gl_journal.specs.Durable.{Durable}
 use Rattle.gl_journal.specs.Records.{key_kind_tag}
@@ -20,9 +21,7 @@ use Rattle.gl_journal.specs.declared.key.KeyKind.{KeyKind}
 use Rattle.gl_journal.specs.declared.key.KeyKind.TheVariants.{Node}
 use Rattle.gl_keyfile.specs.Form.{key_form_of}
 use Rattle.gl_store_book.specs.NodeFile.{opened}
-use Rattle.gl_keyfile.specs.SigningRequest.{kind_of, use_of}
-use Rattle.gl_keyfile.specs.declared.leaf.LeafUse.{LeafUse}
-use Rattle.gl_keyfile.specs.declared.leaf.LeafUse.TheVariants.{Start}
+use Rattle.gl_keyfile.specs.SigningRequest.{kind_of}
 use Rattle.gl_keyfile.specs.declared.signature.Signing.{Signing}
 use Rattle.gl_hss.specs.declared.types.Types.{Types}
 use Rattle.gl_load.specs.Events.{load_ledger}
@@ -40,7 +39,6 @@ use Rattle.gl_receipt.specs.declared.fault.ReceiptFault.{ReceiptFault}
 use Rattle.gl_recovery.specs.RecoveryOutput.{expected_recover, is_source_read}
 use Rattle.gl_recovery.specs.declared.recovering_fault.RecoveringFault.{RecoveringFault}
 use Rattle.gl_recovery.specs.declared.recovering_fault.RecoveringFault.TheVariants as recoverings
-use Rattle.gl_audit.specs.Verdict as audits_to
 use Rattle.gl_audit.specs.declared.verdict.Verdict.{Verdict}
 use Rattle.gl_audit.specs.declared.verdict.Verdict.TheVariants as audits
 use Rattle.hex.specs.Hex.{encode_lower}
@@ -53,12 +51,11 @@ use Rattle.gl_schedule.specs.declared.schedule.Schedule.{Schedule}
 use Rattle.ccfg.specs.declared.plan.PlanError.{PlanError}
 use Rattle.ccfg.specs.declared.plan.PlanError.TheVariants as stops
 use Rattle.gl_commands.specs.declared.task.LoadTask.{LoadTask}
-use Rattle.gl_commands.specs.declared.task.Task.{Task}
-use Rattle.gl_commands.specs.declared.task.Task.TheVariants as tasks
 use Rattle.ccfg.specs.Faults.{fault_line}
 use Rattle.gl_schedule.specs.Schedules.{reads}
 use Rattle.gl_schedule.specs.Output.{text_of_schedule}
 
+-- The status with which the process ends.
 abbrev pub exit_status : Ending → ℕ
 exit_status endings.Done = 0
 exit_status endings.NotValid = 1
@@ -345,54 +342,22 @@ output_of_load load =
     if nat_lt requests_limit load.count then output_of_fault faults.TooManyRequests
     else output_of_answer (report_text (report_of (load_ledger load.seed load.count)))
 
--- What a task owes to what the disk shows and to the bytes of its source. A key is begun on an
--- empty disk alone, and one that is there signs; that is tried before the source. The other tasks
--- use no disk.
-abbrev pub output_of : Task → Shown → List ℕ → Output
-output_of tasks.Replay shown given = output_of_schedule given
-output_of (tasks.Verify identity) shown given = output_of_receipt identity given
-output_of (tasks.Audit identity) shown given = output_of_audit (audits_to.verdict identity given)
-output_of (tasks.Keygen kind types) shown given =
-    on_empty shown.len (output_of_seed kind types given)
-output_of (tasks.Deal threshold members) shown given = output_of_dealing threshold members given
-output_of (tasks.Sign signing) shown given = output_of_signing signing shown.opens given
-output_of tasks.Recover shown given = output_of_recovering shown.opens given
-
--- Whether a task uses the disk.
-abbrev pub uses_disk : Task → Bool
-uses_disk tasks.Replay = false
-uses_disk (tasks.Verify identity) = false
-uses_disk (tasks.Audit identity) = false
-uses_disk (tasks.Keygen kind types) = true
-uses_disk (tasks.Deal threshold members) = false
-uses_disk (tasks.Sign signing) = true
-uses_disk tasks.Recover = true
-
--- For which use a task takes the next leaf of the key of the disk's file, if it takes one.
-abbrev pub leaf_use : Task → Option LeafUse
-leaf_use tasks.Replay = None
-leaf_use (tasks.Verify identity) = None
-leaf_use (tasks.Audit identity) = None
-leaf_use (tasks.Keygen kind types) = None
-leaf_use (tasks.Deal threshold members) = None
-leaf_use (tasks.Sign signing) = Some (use_of signing)
-leaf_use tasks.Recover = Some Start
-
--- Of which kind the key of the disk's file has to be, if a task uses one.
-abbrev pub key_kind : Task → Option KeyKind
-key_kind tasks.Replay = None
-key_kind (tasks.Verify identity) = None
-key_kind (tasks.Audit identity) = None
-key_kind (tasks.Keygen kind types) = None
-key_kind (tasks.Deal threshold members) = None
-key_kind (tasks.Sign signing) = Some (kind_of signing)
-key_kind tasks.Recover = Some Node
-
 -- What holds of what a disk shows: of an honest disk of what its bytes show, of another one of
 -- something that a disk may show.
 abbrev pub OfShown : Bool → List ℕ → (Shown → Type 0) → Type 0
 OfShown true held P = P (shown_by held)
 OfShown false held P = (printed : Shown) × P printed
+
+-- What is due to a task: by the bytes of its source alone, or by what its disk shows too.
+pub data Due : Type 0 where
+  BySource : (List ℕ → Output) → Due
+  ByDisk : (Shown → List ℕ → Output) → Due
+
+-- What holds of the output that is due.
+abbrev pub OfDue : Due → Bool → List ℕ → Option (List ℕ) → (Output → Type 0) → Type 0
+OfDue (BySource output) honest held given P = OfBytes given (λ bytes. P (output bytes))
+OfDue (ByDisk output) honest held given P =
+    OfShown honest held (λ shown. OfBytes given (λ bytes. P (output shown bytes)))
 
 -- What a run does
 

@@ -17,8 +17,8 @@ use Rattle.gl_serve.specs.Types.{NodeSeen}
 use Rattle.gl_store_book.specs.Frames.{goes_on_ledger}
 use Rattle.gl_store_book.specs.NodeFile.{key_of, node_of, opened}
 use Rattle.gl_store_book.specs.Stands.{NodeStore, Stands}
-use Rattle.ccfg.specs.Commands.{Does}
-use Rattle.ccfg.specs.ExpectedOutput.{PrintsFaultPrefix, leaf_use}
+use Rattle.ccfg.specs.Commands.{Does, leaf_use}
+use Rattle.ccfg.specs.ExpectedOutput.{PrintsFaultPrefix}
 use Rattle.ccfg.specs.Nodes.{BeginsBy, OfBeginning}
 use Rattle.ccfg.specs.Run.{DiskRun, LinkRun, Run}
 use Rattle.ccfg.specs.declared.ending.Ending.{Ending}
@@ -95,6 +95,7 @@ pub record TellsByServing {S D L : Type 0} (node : NodeTask) (r : Run S D) (link
       × (told ≡ told_through (ledger_book service_layers keys) (node_of by.state)
       (by.start.node (ledger_book service_layers keys)) life))
 
+-- The leaves by which a run may have told signatures, by what it was asked and how it ended.
 abbrev pub Tells : {S D L : Type 0} → Asked → Run S D → LinkRun L → Ending → List ℕ → Type 0
 Tells (asks.Task task) r link e told = TellsByUse r told (leaf_use task) e
 Tells (asks.Load load) r link e told = told ≡ []

@@ -45,18 +45,13 @@ PlansPlayable (Refuse fault) = Unit {0}
 -- Where a receipt is verified nothing is played, no ledger is shown and no other answer is
 -- reported, and a transaction only where the bytes are a receipt that is accepted for it.
 abbrev pub ShowsAccepted : Task → List ℕ → Plan → Type 0
-ShowsAccepted tasks.Replay given plan = Unit {0}
-ShowsAccepted (tasks.Audit identity) given plan = Unit {0}
-ShowsAccepted (tasks.Keygen kind types) given plan = Unit {0}
-ShowsAccepted (tasks.Deal threshold members) given plan = Unit {0}
-ShowsAccepted (tasks.Sign signing) given plan = Unit {0}
-ShowsAccepted tasks.Recover given plan = Unit {0}
 ShowsAccepted (tasks.Verify identity) given (Play schedule) = ⊥
 ShowsAccepted (tasks.Verify identity) given (ShowLedger last signed) = ⊥
 ShowsAccepted (tasks.Verify identity) given (Print text) = ⊥
 ShowsAccepted (tasks.Verify identity) given (Show id) =
     (receipt : Receipt) × (receipt_from given ≡ Ok receipt) × Accepts identity receipt id
 ShowsAccepted (tasks.Verify identity) given (Refuse fault) = Unit {0}
+ShowsAccepted task given plan = Unit {0}
 
 -- A key of this kind, these types and this seed is kept: each image that a stop may leave of the
 -- disk has its closed gate, and opens to it, and to nothing else.

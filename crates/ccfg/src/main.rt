@@ -1,25 +1,19 @@
 //! `ccfg`, the program.
 #![tactic(auto)]
 
-mod deal;
 mod ending;
 mod fault;
 mod invocation;
-mod keygen;
 mod laws;
-mod ledger_plan;
 mod load;
 mod node;
 mod output;
 mod plan;
 mod program;
-mod recovery;
 mod schedule_nodes;
-mod signature;
 mod source_bytes;
 #[cfg(test)]
 mod tests;
-mod verify;
 
 use ending::Ending;
 use gl_commands::{HELP, VERSION};

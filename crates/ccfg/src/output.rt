@@ -9,10 +9,8 @@ ghost use Rattle.gl_world.specs.Keyed.{HasKeysOf};
 
 use crate::ending::Ending;
 use crate::fault::Fault;
-use crate::ledger_plan::ledger_line;
-use crate::plan::Plan;
+use crate::plan::{Plan, ledger_line, valid_line};
 use crate::schedule_nodes::nodes;
-use crate::verify::valid_line;
 use gl_base::TxId;
 use gl_lines::Lines;
 use gl_outside::{Sink, SinkFault, write_whole};

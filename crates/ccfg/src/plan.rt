@@ -10,26 +10,37 @@ ghost use Rattle.gl_journal.specs.declared.key.KeyKind.{KeyKind};
 ghost use Rattle.gl_store_book.specs.NodeFile.{opened};
 ghost use Rattle.gl_keyfile.specs.declared.leaf.LeafUse.{LeafUse};
 ghost use Rattle.gl_hss.specs.declared.types.Types.{Types};
-ghost use Rattle.ccfg.specs.ExpectedOutput.{EndsSource, OfShown, bytes_limit, ending_of_stop, key_kind, leaf_use, output_of, output_of_schedule, uses_disk};
+ghost use Rattle.ccfg.specs.Commands.{key_kind, leaf_use, output_of, uses_disk};
+ghost use Rattle.ccfg.specs.ExpectedOutput.{EndsSource, OfDue, bytes_limit, ending_of_stop, output_of_schedule};
 ghost use Rattle.ccfg.specs.Plans.{IsUntouched, MovesByLeaf, MovesToKey, OpensAsBefore, PlansPlayable, PrintsFault, PrintsSpent, ShowsAccepted, ShowsKept, output_of_plan};
 ghost use Rattle.ccfg.specs.SignCommand.{HasNoKey, IsForeign};
 ghost use Rattle.gl_commands.specs.declared.task.Task.TheVariants.{Keygen};
 
-use crate::deal::read_dealing_plan;
 use crate::ending::Ending;
 use crate::fault::Fault;
-use crate::keygen::keygen_plan;
-use crate::ledger_plan::read_ledger_plan;
-use crate::recovery::recovering_plan;
-use crate::signature::signing_plan;
+use crate::plan::deal::read_dealing_plan;
+use crate::plan::keygen::keygen_plan;
+use crate::plan::ledger::read_ledger_plan;
+use crate::plan::recovery::recovering_plan;
+use crate::plan::signature::signing_plan;
+use crate::plan::verify::read_receipt_plan;
 use crate::source_bytes::{ReadError, read_whole};
-use crate::verify::read_receipt_plan;
 use gl_base::{OrNoMemory, TxId};
 use gl_commands::Task;
 use gl_lines::{ScheduleFault, line_count};
 use gl_outside::{Disk, Source};
 use gl_schedule::{KeyedSchedule, read};
 use std::alloc::{AllocError, Global};
+
+mod deal;
+mod keygen;
+mod ledger;
+mod recovery;
+mod signature;
+mod verify;
+
+pub use ledger::ledger_line;
+pub use verify::valid_line;
 
 /// The most bytes that a schedule has.
 const BYTES_LIMIT: usize = 16_777_216;
@@ -123,9 +134,8 @@ pub fn read_plan<S: Source, D: Disk>(
     source: &mut S,
     disk: D,
 ) -> (Result<Plan, PlanError>, D)
-    ensures output { IfOk result.0 (λ plan. OfShown D.honest (D.bytes disk) (λ shown.
-        OfBytes (S.left source.old) (λ given. output_of task.now shown given
-        ≡ output_of_plan plan))) }
+    ensures output { IfOk result.0 (λ plan. OfDue (output_of task.now) D.honest (D.bytes disk)
+        (S.left source.old) (λ output. output ≡ output_of_plan plan)) }
     ensures sound { IfOk result.0 (λ plan.
         OfBytes (S.left source.old) (λ given. ShowsAccepted task.now given plan)) }
     ensures ended { IfOk result.0 (λ plan. EndsSource (output_of_plan plan) (S.ended source.new)) }

@@ -16,9 +16,9 @@ ghost use Rattle.gl_commands.specs.declared.task.Task.TheVariants.{Keygen, Verif
 ghost use Rattle.gl_commands.specs.declared.task.Asked.{Asked as Commands};
 ghost use Rattle.gl_schedule.specs.Moments.{KeepsHeadline, PrintsMoments};
 ghost use Rattle.gl_entry.specs.SourceBytes.{OfBytes};
-ghost use Rattle.ccfg.specs.Commands.{Does, ReportsFault};
-ghost use Rattle.ccfg.specs.Exits.{ExitsByDisk};
-ghost use Rattle.ccfg.specs.ExpectedOutput.{PrintsFaultPrefix, exit_status, key_kind, leaf_use, output_of, uses_disk};
+ghost use Rattle.ccfg.specs.Commands.{Does, ReportsFault, key_kind, leaf_use, output_of, uses_disk};
+ghost use Rattle.ccfg.specs.Exits.{ExitsAsDue};
+ghost use Rattle.ccfg.specs.ExpectedOutput.{PrintsFaultPrefix, exit_status};
 ghost use Rattle.ccfg.specs.Plans.{IsUntouched, KeepsKey, MovesByLeaf, MovesToKey, OpensAsBefore, SpendsLeaf};
 ghost use Rattle.ccfg.specs.Run.{disk_run, link_run, sink_run, source_run};
 ghost use Rattle.ccfg.specs.SignCommand.{HasNoKey, IsForeign};
@@ -90,7 +90,7 @@ fn execute<S: Source, K: Sink, D: Disk>(
     ensures unread_key { IsTrue D.honest → (kind : KeyKind) → key_kind task.now ≡ Some kind
         → HasNoKey kind (opened (D.bytes disk)) → source.new ≡ source.old }
     ensures quiet { result.0 ≢ SourceFailed → S.faults source.new ≡ S.faults source.old }
-    ensures runs { ExitsByDisk (record {
+    ensures runs { ExitsAsDue (record {
       source = source_run S.left S.ended S.faults source.old source.new;
       sink = sink_run K.holds K.faults sink.old sink.new;
       disk = disk_run D.honest D.bytes D.past D.faults disk result.1;

@@ -1,5 +1,5 @@
 -- The command line, as the library for command lines has it.
-use Rattle.std.specs.Prelude.{◌≡◌, Some, true, false, codes}
+use Rattle.std.specs.Prelude.{◌≡◌, Some, ⊤, true, false, codes}
 use Rattle.clap.specs.Lexer.{usize_max}
 use Rattle.clap.specs.Simple.{App, app_of, new_app, new_rule, on_top, with_rule, with_subcommand}
 use Rattle.clap.specs.Walk.{Rule, Text}
@@ -107,6 +107,11 @@ program =
     with_subcommand
     (with_subcommand (with_subcommand nodeless_program recover_command.top) node_command.top)
     load_command.top
+
+-- All of it, for a proof that computes with it.
+unfoldable pub whole_program : ⊤
+unfolding program nodeless_program keyless_program diskless_program
+whole_program = tt
 
 -- The command is this one, with no option that holds for others too.
 abbrev pub IsCommand : App → Command → Type 0

@@ -7,7 +7,6 @@
 
 mod commands;
 mod digest_word;
-mod help;
 mod journals;
 mod load_words;
 mod node_words;
@@ -17,7 +16,7 @@ mod values;
 mod word_faults;
 mod words;
 
-pub use help::{HELP, VERSION};
+pub use commands::{HELP, VERSION};
 pub use journals::{put_journal, put_key_kinds};
 pub use receipts::put_receipt;
 pub use task::{Asked, LoadTask, NodeTask, Task, WordsFault};

@@ -1,6 +1,6 @@
 //! What the options and the words of `node` ask for.
 
-ghost use Rattle.std.specs.Prelude.{◌≡◌, ◌∷◌, ◌≤◌, [], Err, IfErr, IfOk, None, Ok, Some, if◌then◌else◌, map, option_map};
+ghost use Rattle.std.specs.Prelude.{◌≡◌, ◌≤◌, Err, IfErr, IfOk, None, Ok, Some, if◌then◌else◌, map, option_map};
 ghost use Rattle.std.specs.List.{list_all};
 ghost use Rattle.gl_commands.specs.Words.{RefusesOnly, asked_node, asked_peers, asked_ticks, asked_turns, asked_workers, is_node, node_of, number_within};
 
@@ -30,7 +30,7 @@ fn number_within(default: u64, span: Span, word: Option<&str>) -> Result<u64, Er
     ensures within { IfOk result (λ number.
         (span.least ≤ number) × (number ≤ span.greatest)) }
     ensures refused { IfErr result (λ kind. number_within default span.least span.greatest
-        (option_map (λ s. s.now) word.entry) ≡ Err (kind ∷ [])) }
+        (option_map (λ s. s.now) word.entry) ≡ Err kind) }
 {
     let Some(word) = word else {
         return Ok(default);
@@ -47,7 +47,7 @@ fn asked_ticks(word: Option<&str>) -> Result<u32, ErrorKind>
         asked_ticks (option_map (λ s. s.now) word.entry) ≡ Ok ticks) }
     ensures some { IfOk result (λ ticks. 1 ≤ ticks) }
     ensures refused { IfErr result (λ kind.
-        asked_ticks (option_map (λ s. s.now) word.entry) ≡ Err (kind ∷ [])) }
+        asked_ticks (option_map (λ s. s.now) word.entry) ≡ Err kind) }
 {
     let span = Span {
         least: 1,
@@ -64,7 +64,7 @@ fn asked_workers(word: Option<&str>) -> Result<u64, ErrorKind>
     ensures found { IfOk result (λ workers.
         asked_workers (option_map (λ s. s.now) word.entry) ≡ Ok workers) }
     ensures refused { IfErr result (λ kind.
-        asked_workers (option_map (λ s. s.now) word.entry) ≡ Err (kind ∷ [])) }
+        asked_workers (option_map (λ s. s.now) word.entry) ≡ Err kind) }
 {
     let none = Span {
         least: 0,
@@ -78,7 +78,7 @@ fn asked_turns(word: Option<&str>) -> Result<u64, ErrorKind>
     ensures found { IfOk result (λ turns.
         asked_turns (option_map (λ s. s.now) word.entry) ≡ Ok turns) }
     ensures refused { IfErr result (λ kind.
-        asked_turns (option_map (λ s. s.now) word.entry) ≡ Err (kind ∷ [])) }
+        asked_turns (option_map (λ s. s.now) word.entry) ≡ Err kind) }
 {
     let span = Span {
         least: 1,

@@ -1,19 +1,19 @@
 //! The words that the program is called with.
 
-ghost use Rattle.std.specs.Prelude.{◌≡◌, ◌∷◌, ◌≤◌, [], Err, IfErr, IfOk, None, Ok, Some, false, if◌then◌else◌, map, option_map, true};
+ghost use Rattle.std.specs.Prelude.{◌≡◌, ◌≤◌, [], Err, IfErr, IfOk, None, Ok, Some, false, if◌then◌else◌, map, option_map, true};
 ghost use Rattle.std.specs.List.{list_all};
 ghost use Rattle.std.specs.Str.Parse.{digits_value};
 ghost use Rattle.std.specs.String.{string_bytes};
 ghost use Rattle.clap.specs.Faults.{fault_of};
 ghost use Rattle.clap.specs.Matches.{found_of};
 ghost use Rattle.clap.specs.Simple.{subcommand_of, subcommand_rows_of};
-ghost use Rattle.clap.specs.Walk.{rows_of};
+ghost use Rattle.clap.specs.Walk.{all_of, first_of, rows_of};
 ghost use Rattle.clap.specs.declared.error.kind.ErrorKind.{ErrorKind};
 ghost use Rattle.gl_lines.specs.Words.{hex_sized};
 ghost use Rattle.gl_commands.specs.Commands.{program};
 ghost use Rattle.gl_commands.specs.declared.task.Asked.TheVariants as asks;
 ghost use Rattle.gl_commands.specs.declared.task.NodeTask.{NodeTask as NodeTasks};
-ghost use Rattle.gl_commands.specs.Words.{RefusesOnly, RefusesWords, asked, asked_by_load, asked_by_node, asked_command, asked_deal, asked_identity, asked_keygen, asked_member, asked_name, asked_named, asked_number, asked_numbers, asked_options, asked_sign, asked_task, asked_with_identity, asked_with_words, encoded_key, encoded_member, is_member, is_number, named_kind, named_types, plain_task, task_under};
+ghost use Rattle.gl_commands.specs.Words.{RefusesOnly, RefusesWords, asked, asked_by_load, asked_by_node, asked_command, asked_deal, asked_identity, asked_keygen, asked_member, asked_name, asked_named, asked_number, asked_numbers, asked_sign, asked_task, encoded_key, encoded_member, is_member, is_number, named_kind, named_types, task_under};
 
 use crate::commands::program;
 use crate::load_words::asked_load;
@@ -33,7 +33,7 @@ use std::alloc::{AllocError, Global};
 /// The key that a word encodes.
 fn encoded_key(word: &str) -> Result<HssPublicKey, ErrorKind>
     ensures found { IfOk result (λ key. encoded_key (hex_sized word.now 60) ≡ Ok key) }
-    ensures refused { IfErr result (λ kind. encoded_key (hex_sized word.now 60) ≡ Err (kind ∷ [])) }
+    ensures refused { IfErr result (λ kind. encoded_key (hex_sized word.now 60) ≡ Err kind) }
 {
     if !is_lower_hex(word.as_bytes()) {
         return Err(ErrorKind::ValueValidation);
@@ -49,7 +49,7 @@ fn asked_identity(word: Option<&str>) -> Result<HssPublicKey, ErrorKind>
     ensures found { IfOk result (λ key.
         asked_identity (option_map (λ s. s.now) word.entry) ≡ Ok key) }
     ensures refused { IfErr result (λ kind.
-        asked_identity (option_map (λ s. s.now) word.entry) ≡ Err (kind ∷ [])) }
+        asked_identity (option_map (λ s. s.now) word.entry) ≡ Err kind) }
 {
     match word {
         Some(word) => encoded_key(word),
@@ -96,7 +96,7 @@ fn asked_kind(word: Option<&str>) -> Result<KeyKind, ErrorKind>
     ensures found { IfOk result (λ kind.
         asked_name named_kind (option_map (λ s. s.now) word.entry) ≡ Ok kind) }
     ensures refused { IfErr result (λ printed.
-        asked_name named_kind (option_map (λ s. s.now) word.entry) ≡ Err (printed ∷ [])) }
+        asked_name named_kind (option_map (λ s. s.now) word.entry) ≡ Err printed) }
 {
     match word {
         Some(word) => named_kind(word).ok_or(ErrorKind::InvalidValue),
@@ -109,7 +109,7 @@ fn asked_types(word: Option<&str>) -> Result<Types, ErrorKind>
     ensures found { IfOk result (λ types.
         asked_name named_types (option_map (λ s. s.now) word.entry) ≡ Ok types) }
     ensures refused { IfErr result (λ printed.
-        asked_name named_types (option_map (λ s. s.now) word.entry) ≡ Err (printed ∷ [])) }
+        asked_name named_types (option_map (λ s. s.now) word.entry) ≡ Err printed) }
 {
     match word {
         Some(word) => named_types(word).ok_or(ErrorKind::InvalidValue),
@@ -123,7 +123,7 @@ fn asked_keygen(kind: Option<&str>, types: Option<&str>) -> Result<Task, ErrorKi
         (option_map (λ s. s.now) kind.entry) (option_map (λ s. s.now) types.entry) ≡ Ok task) }
     ensures refused { IfErr result (λ printed. asked_keygen
         (option_map (λ s. s.now) kind.entry) (option_map (λ s. s.now) types.entry)
-        ≡ Err (printed ∷ [])) }
+        ≡ Err printed) }
 {
     match asked_kind(kind) {
         Ok(kind) => match asked_types(types) {
@@ -150,7 +150,7 @@ fn member_number(number: u8) -> Result<u8, ErrorKind>
 /// The member's number that a word encodes.
 fn encoded_member(word: &str) -> Result<u8, ErrorKind>
     ensures found { IfOk result (λ number. encoded_member word.now ≡ Ok number) }
-    ensures refused { IfErr result (λ kind. encoded_member word.now ≡ Err (kind ∷ [])) }
+    ensures refused { IfErr result (λ kind. encoded_member word.now ≡ Err kind) }
 {
     if !is_decimal(word.as_bytes()) {
         return Err(ErrorKind::ValueValidation);
@@ -166,7 +166,7 @@ fn asked_member(word: Option<&str>) -> Result<u8, ErrorKind>
     ensures found { IfOk result (λ number.
         asked_member (option_map (λ s. s.now) word.entry) ≡ Ok number) }
     ensures refused { IfErr result (λ kind.
-        asked_member (option_map (λ s. s.now) word.entry) ≡ Err (kind ∷ [])) }
+        asked_member (option_map (λ s. s.now) word.entry) ≡ Err kind) }
 {
     match word {
         Some(word) => encoded_member(word),
@@ -179,7 +179,7 @@ fn asked_sign(identity: Option<&str>, member: Option<&str>) -> Result<Task, Erro
     ensures found { IfOk result (λ task. asked_sign (option_map (λ s. s.now) identity.entry)
         (option_map (λ s. s.now) member.entry) ≡ Ok task) }
     ensures refused { IfErr result (λ printed. asked_sign (option_map (λ s. s.now) identity.entry)
-        (option_map (λ s. s.now) member.entry) ≡ Err (printed ∷ [])) }
+        (option_map (λ s. s.now) member.entry) ≡ Err printed) }
 {
     match asked_identity(identity) {
         Ok(identity) => match asked_member(member) {
@@ -207,7 +207,7 @@ pub(crate) fn asked_number(word: Option<&str>) -> Result<u64, ErrorKind>
     ensures found { IfOk result (λ number.
         asked_number (option_map (λ s. s.now) word.entry) ≡ Ok number) }
     ensures refused { IfErr result (λ kind.
-        asked_number (option_map (λ s. s.now) word.entry) ≡ Err (kind ∷ [])) }
+        asked_number (option_map (λ s. s.now) word.entry) ≡ Err kind) }
 {
     match word {
         Some(word) => number_in(word).ok_or(ErrorKind::ValueValidation),
@@ -269,79 +269,45 @@ fn asked_deal(
     }
 }
 
-/// What a command with an option for a service's key asks for.
-fn asked_with_identity(name: &str, options: &ArgMatches) -> Result<Task, ErrorKind>
-    ensures found { IfOk result (λ task.
-        asked_with_identity name.now (rows_of (found_of options.now)) ≡ Ok task) }
-    ensures refused { IfErr result (λ kind.
-        asked_with_identity name.now (rows_of (found_of options.now)) ≡ Err (kind ∷ [])) }
+/// The word of an option, if it is there.
+fn word_of<'a>(found: &ArgMatches<'a>, name: &str) -> Option<&'a str>
+    ensures { option_map (λ s. s.now) result ≡ first_of name.now (rows_of (found_of found.now)) }
 {
-    if name == "sign" {
-        return asked_sign(options.get_str("identity"), options.get_str("member"));
-    }
-    match asked_identity(options.get_str("identity")) {
-        Ok(identity) => Ok(task_under(name, identity)),
-        Err(kind) => Err(kind),
-    }
+    found.get_str(name)
 }
 
-/// What a command with options asks for.
-fn asked_options(name: &str, options: &ArgMatches) -> Result<Task, ErrorKind>
-    ensures found { IfOk result (λ task.
-        asked_options name.now (rows_of (found_of options.now)) ≡ Ok task) }
-    ensures refused { IfErr result (λ kind.
-        asked_options name.now (rows_of (found_of options.now)) ≡ Err (kind ∷ [])) }
+/// The words of a command that stand by themselves, if there are any.
+fn words_of<'m, 'a>(found: &'m ArgMatches<'a>, name: &str) -> Option<&'m [&'a str]>
+    ensures { option_map (λ s. map (λ v. v.now) s.now) result
+        ≡ all_of name.now (rows_of (found_of found.now)) }
 {
-    if name == "keygen" {
-        asked_keygen(options.get_str("kind"), options.get_str("types"))
-    } else {
-        asked_with_identity(name, options)
-    }
+    found.get_strs(name)
 }
 
-/// What a command with options or words asks for, but `node` and `load`.
-fn asked_with_words(alloc: Global, name: &str, found: &ArgMatches) -> Result<Task, WordsFault>
-    ensures found { IfOk result (λ task.
-        asked_with_words name.now (rows_of (found_of found.now)) ≡ Ok task) }
-    ensures refused { IfErr result (RefusesOnly
-        (asked_with_words name.now (rows_of (found_of found.now)))) }
-{
-    if name == "deal" {
-        return asked_deal(alloc, found.get_str("threshold"), found.get_strs("members"));
-    }
-    match asked_options(name, found) {
-        Ok(task) => Ok(task),
-        Err(kind) => Err(WordsFault::Refused(kind)),
-    }
-}
-
-/// What a command without options asks for.
-fn plain_task(name: &str) -> Option<Task>
-    ensures { result ≡ plain_task name.now }
-{
-    match name {
-        "replay" => Some(Task::Replay),
-        "endorse" => Some(Task::Sign {
-            signing: Signing::Endorsement,
-        }),
-        "genesis" => Some(Task::Sign {
-            signing: Signing::Opening,
-        }),
-        "recover" => Some(Task::Recover),
-        _ => None,
-    }
-}
-
-/// The task that a command asks for which is neither `node` nor `load`.
+/// The task that a command asks for, but `node` and `load`.
 fn asked_task(alloc: Global, name: &str, found: &ArgMatches) -> Result<Task, WordsFault>
     ensures found { IfOk result (λ task.
         asked_task name.now (rows_of (found_of found.now)) ≡ Ok task) }
     ensures refused { IfErr result (RefusesOnly
         (asked_task name.now (rows_of (found_of found.now)))) }
 {
-    match plain_task(name) {
-        Some(task) => Ok(task),
-        None => asked_with_words(alloc, name, found),
+    match name {
+        "replay" => Ok(Task::Replay),
+        "endorse" => Ok(Task::Sign {
+            signing: Signing::Endorsement,
+        }),
+        "genesis" => Ok(Task::Sign {
+            signing: Signing::Opening,
+        }),
+        "recover" => Ok(Task::Recover),
+        "deal" => asked_deal(
+            alloc,
+            word_of(found, "threshold"),
+            words_of(found, "members"),
+        ),
+        "keygen" => Ok(asked_keygen(word_of(found, "kind"), word_of(found, "types"))?),
+        "sign" => Ok(asked_sign(word_of(found, "identity"), word_of(found, "member"))?),
+        _ => Ok(task_under(name, asked_identity(word_of(found, "identity"))?)),
     }
 }
 
@@ -355,10 +321,10 @@ fn asked_by_node(alloc: Global, found: &ArgMatches) -> Result<NodeTask, WordsFau
 {
     asked_node(
         alloc,
-        found.get_str("ticks"),
-        found.get_str("workers"),
-        found.get_str("turns"),
-        found.get_strs("peers"),
+        word_of(found, "ticks"),
+        word_of(found, "workers"),
+        word_of(found, "turns"),
+        words_of(found, "peers"),
     )
 }
 
@@ -367,9 +333,9 @@ fn asked_by_load(found: &ArgMatches) -> Result<LoadTask, ErrorKind>
     ensures found { IfOk result (λ load.
         asked_by_load (rows_of (found_of found.now)) ≡ Ok load) }
     ensures refused { IfErr result (λ kind.
-        asked_by_load (rows_of (found_of found.now)) ≡ Err (kind ∷ [])) }
+        asked_by_load (rows_of (found_of found.now)) ≡ Err kind) }
 {
-    asked_load(found.get_str("count"), found.get_str("seed"))
+    asked_load(word_of(found, "count"), word_of(found, "seed"))
 }
 
 /// What a command asks for.

@@ -1,5 +1,5 @@
 use Rattle.std.proofs.Common.{Err, ap, ◌∙◌, inr, rules}
-use Rattle.ccfg.specs.ExpectedOutput.{output_of}
+use Rattle.ccfg.specs.Commands.{output_of}
 use Rattle.ccfg.specs.Run.{disk_run, sink_run, source_run}
 use Rattle.ccfg.specs.declared.fault.Fault.TheVariants.{TooMuchJson}
 use Rattle.ccfg.proofs.ExpectedOutputLaws.{kept, kept_or_refused, output_runs, spent, spent_or_refused, stop_runs}

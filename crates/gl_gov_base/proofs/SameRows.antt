@@ -1,5 +1,5 @@
 -- Histories that are alike have the same rows.
-use Rattle.std.proofs.Common.{◌≡◌, ℕ, suc, List, [], ◌∷◌, map, filter_map, Option, Some, None, Bool, true, false, ◌&&◌, cond, find, reverse, nat_eq, refl, sym, ◌∙◌, ap, subst₂, arith}
+use Rattle.std.proofs.Common.{◌≡◌, ℕ, suc, List, [], ◌∷◌, map, filter_map, Option, Some, None, Bool, true, false, ◌&&◌, cond, find, reverse, nat_eq, refl, sym, ◌∙◌, ap, subst, subst₂, arith}
 use Rattle.std.specs.Option.{option_map}
 use Rattle.std.proofs.lemmas.Bool.Decides.{nat_tests}
 use Rattle.gl_base.specs.Bytes.{same_bytes}
@@ -18,15 +18,17 @@ use Rattle.gl_gov_rules.specs.declared.change.ProposalStatus.{ProposalStatus}
 use Rattle.gl_gov_rules.specs.declared.row.Vote.{Vote}
 use Rattle.gl_gov_rules.specs.declared.row.NodeRow.{NodeRow}
 use Rattle.gl_gov_rules.specs.History.{History, seqno_of}
-use Rattle.gl_gov_rules.specs.Members.{members}
+use Rattle.gl_gov_rules.specs.Members.{members, has_number}
 use Rattle.gl_gov_rules.specs.Nodes.{nodes, retirement}
 use Rattle.gl_gov_rules.specs.Service.{constitution, dealing, shares_given}
 use Rattle.gl_gov_rules.specs.Proposals.{proposals, proposal, answers_of}
 use Rattle.gl_gov_rules.specs.ProposalStatus.{proposal_named, status_of, status_with, proposal_status}
 use Rattle.gl_gov_rules.specs.Changes.{with_request}
 use Rattle.gl_gov_rules.specs.Rows.{service_row_of, service_row, service_write, members_map, member_row, member_rows, member_write, node_row, node_rows_from, node_rows, node_write, proposals_map, vote_of, member_numbers, votes, proposal_row, proposal_write, proposal_writes, rule_writes_of, dealing_write, shares_map, share_write, write_of, all_rows, rows}
+use Rattle.gl_gov_base.specs.SameBy.{SameBy}
+use Rattle.gl_gov_base.specs.AtBase.{of_number}
 use Rattle.gl_gov_base.specs.Alike.{NodeView, node_view, ProposalView, proposal_view, Alike, IsNew}
-use Rattle.gl_gov_base.proofs.SameLists.{map_twice, map_alike}
+use Rattle.gl_gov_base.proofs.SameLists.{map_twice, map_alike, same_map}
 use Rattle.gl_gov_base.proofs.SameReadings.{same_member_status, status_in, status_viewed, state_in, state_viewed, same_proposal}
 use Rattle.gl_gov_base.proofs.SameChanges.{alike_request}
 use Rattle.gl_gov_base.proofs.SameSets.{SameWrites, same_write_set, same_parts, same_writes, same_rows}
@@ -117,6 +119,12 @@ module _ (base : ℕ) (a b : History) (x : Alike base a b) where
   same_member_row : (m : NewMember) → member_row a m ≡ member_row b m
   unfolding member_row
   same_member_row m = λ i. record { number = m.number; status = same_member_status base a b x m.number i; key = m.key; next_leaf = x.leaves m.number i }
+
+  pub same_member_rows : SameBy of_number (member_rows a) (member_rows b)
+  unfolding member_rows member_row
+  same_member_rows =
+      subst (SameBy of_number (map (member_row a) (members a))) (map_alike (member_row a) (member_row b) same_member_row (members b))
+      (same_map has_number of_number (member_row a) (λ k m. refl) (members a) (members b) x.members)
 
   same_members : SameWrites (map member_write (member_rows a)) (map member_write (member_rows b))
   unfolding member_rows member_row

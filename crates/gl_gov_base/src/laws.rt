@@ -12,7 +12,7 @@ ghost use Rattle.gl_gov_rules.specs.Nodes.{mark, trusted};
 ghost use Rattle.gl_gov_rules.specs.ProposalStatus.{proposal_status};
 ghost use Rattle.gl_gov_rules.specs.Refusals.{refusal};
 ghost use Rattle.gl_gov_rules.specs.Rows.{effect_writes, node_rows, rows, service_row};
-ghost use Rattle.gl_gov_rules.specs.Service.{shares_given};
+ghost use Rattle.gl_gov_rules.specs.Service.{dealing, shares_given, threshold_of};
 ghost use Rattle.gl_gov_base.specs.Alike.{is_up_to};
 ghost use Rattle.gl_gov_base.specs.Law.{IsLeft, IsOver, writes_over};
 
@@ -21,7 +21,8 @@ ghost use Rattle.gl_gov_base.specs.Law.{IsLeft, IsOver, writes_over};
 /// such rows are always read, where there was a request. Then every request above the base, whose
 /// fields are in their ranges, is refused alike; one that isn't refused writes the same; and what
 /// is told of its proposal, all rows, the service, the nodes, those that are trusted, those that
-/// are marked up to any seqno from the base on, and the number of shares that count are the same.
+/// are marked up to any seqno from the base on, the number of shares that count, and how many are
+/// needed are the same.
 pub fn law_of_base()
     ensures read { (base : ℕ) (all : List Row) (rs : List Recorded) →
         IsLeft base all rs → IsGoverned rs → is_nothing rs ≡ false →
@@ -61,4 +62,8 @@ pub fn law_of_base()
         IsOver base all g rs es →
         length (shares_given (history (rs ++ es)))
         ≡ length (shares_given (history_over (Some g) es)) }
+    ensures needed { (base : ℕ) (all : List Row) (g : GovernedRows) (rs es : List Recorded) →
+        IsOver base all g rs es →
+        threshold_of (dealing (history (rs ++ es)))
+        ≡ threshold_of (dealing (history_over (Some g) es)) }
 {}

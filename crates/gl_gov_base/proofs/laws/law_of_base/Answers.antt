@@ -1,3 +1,5 @@
+use Rattle.std.proofs.Common.{ap}
+use Rattle.gl_gov_rules.specs.Service.{threshold_of}
 use Rattle.gl_gov_base.proofs.AlwaysRead.{always_read}
 use Rattle.gl_gov_base.proofs.AtBase.{alike_over, effects_over, share_counts}
 use Rattle.gl_gov_base.proofs.SameReadings.{same_trusted}
@@ -17,4 +19,5 @@ returns c = record {
   trusted = λ base all g rs es over. same_trusted base _ _ (alike_over base all g rs es over);
   marks = λ base all g rs es over. (alike_over base all g rs es over).marks;
   shares = share_counts;
+  needed = λ base all g rs es over. ap threshold_of (alike_over base all g rs es over).dealing;
 }

@@ -11,10 +11,12 @@ ghost use Rattle.gl_gov_rules.specs.GovernedRows.{GovernedRows, governed_rows, h
 ghost use Rattle.gl_gov_rules.specs.Nodes.{mark, trusted};
 ghost use Rattle.gl_gov_rules.specs.ProposalStatus.{proposal_status};
 ghost use Rattle.gl_gov_rules.specs.Refusals.{refusal};
-ghost use Rattle.gl_gov_rules.specs.Rows.{effect_writes, node_rows, rows, service_row};
+ghost use Rattle.gl_gov_rules.specs.Rows.{effect_writes, member_rows, node_rows, rows, service_row};
 ghost use Rattle.gl_gov_rules.specs.Service.{dealing, shares_given, threshold_of};
 ghost use Rattle.gl_gov_base.specs.Alike.{is_up_to};
+ghost use Rattle.gl_gov_base.specs.AtBase.{of_number};
 ghost use Rattle.gl_gov_base.specs.Law.{IsLeft, IsOver, writes_over};
+ghost use Rattle.gl_gov_base.specs.SameBy.{SameBy};
 
 /// Governance over a base is the same as over the whole ledger. Of requests that were accepted one
 /// after another, those up to a base may be replaced by the rows that they left, read as values;
@@ -22,7 +24,8 @@ ghost use Rattle.gl_gov_base.specs.Law.{IsLeft, IsOver, writes_over};
 /// fields are in their ranges, is refused alike; one that isn't refused writes the same; and what
 /// is told of its proposal, all rows, the service, the nodes, those that are trusted, those that
 /// are marked up to any seqno from the base on, the number of shares that count, and how many are
-/// needed are the same.
+/// needed are the same. So are the members, but for their order: over a base those up to it stand by
+/// number, in a whole ledger as they came.
 pub fn law_of_base()
     ensures read { (base : ℕ) (all : List Row) (rs : List Recorded) →
         IsLeft base all rs → IsGoverned rs → is_nothing rs ≡ false →
@@ -66,4 +69,8 @@ pub fn law_of_base()
         IsOver base all g rs es →
         threshold_of (dealing (history (rs ++ es)))
         ≡ threshold_of (dealing (history_over (Some g) es)) }
+    ensures members { (base : ℕ) (all : List Row) (g : GovernedRows) (rs es : List Recorded) →
+        IsOver base all g rs es →
+        SameBy of_number (member_rows (history (rs ++ es)))
+        (member_rows (history_over (Some g) es)) }
 {}

@@ -4,7 +4,7 @@ use Rattle.gl_gov_base.proofs.AlwaysRead.{always_read}
 use Rattle.gl_gov_base.proofs.AtBase.{alike_over, effects_over, share_counts}
 use Rattle.gl_gov_base.proofs.SameReadings.{same_trusted}
 use Rattle.gl_gov_base.proofs.SameRefusals.{same_refusal}
-use Rattle.gl_gov_base.proofs.SameRows.{same_nodes, same_service, same_all, same_proposal_status}
+use Rattle.gl_gov_base.proofs.SameRows.{same_member_rows, same_nodes, same_service, same_all, same_proposal_status}
 use Rattle.gl_gov_base.proofs.laws.law_of_base.Goals as goal
 
 pub returns : goal.returns
@@ -20,4 +20,5 @@ returns c = record {
   marks = λ base all g rs es over. (alike_over base all g rs es over).marks;
   shares = share_counts;
   needed = λ base all g rs es over. ap threshold_of (alike_over base all g rs es over).dealing;
+  members = λ base all g rs es over. same_member_rows base _ _ (alike_over base all g rs es over);
 }

@@ -36,3 +36,4 @@ pub mod ReadRows
 pub mod RowsReadable
 pub mod AlwaysRead
 pub mod AtBase
+pub mod AcceptedOver

@@ -1,6 +1,6 @@
 -- Requests up to a base and above it, each accepted after those before it, and the rows that those
 -- up to the base left, read as values.
-use Rattle.std.specs.Prelude.{◌≡◌, ℕ, suc, ◌<◌, ◌^◌, List, [], ◌∷◌, ◌++◌, Option, None, Ok, true, filter, fold}
+use Rattle.std.specs.Prelude.{◌≡◌, ℕ, suc, ◌<◌, ◌^◌, List, [], ◌∷◌, ◌++◌, Option, None, Some, Ok, true, false, filter, fold}
 use Rattle.std.specs.List.{AllByRecursion}
 use Rattle.gl_vmaps.specs.Name.{is_governance}
 use Rattle.gl_vmaps.specs.Rows.{row_writes}
@@ -12,8 +12,9 @@ use Rattle.gl_gov_rules.specs.declared.change.Recorded.{Recorded}
 use Rattle.gl_gov_rules.specs.History.{History}
 use Rattle.gl_gov_rules.specs.Changes.{with_request, history}
 use Rattle.gl_gov_rules.specs.Refusals.{refusal}
+use Rattle.gl_gov_rules.specs.Rising.{IsRising}
 use Rattle.gl_gov_rules.specs.Rows.{rows}
-use Rattle.gl_gov_rules.specs.Governed.{IsAbove, IsGoverned}
+use Rattle.gl_gov_rules.specs.Governed.{is_founding, IsAbove, IsGoverned}
 use Rattle.gl_gov_rules.specs.GovernedRows.{GovernedRows, governed_rows, history_over}
 
 -- The history of more requests after another history.
@@ -47,6 +48,19 @@ pub record IsOver (base : ℕ) (all : List Row) (g : GovernedRows) (rs es : List
   pub read : governed_rows base all ≡ Ok g
   pub high : AllByRecursion (λ (r : Recorded). base < r.seqno) es
   pub governed : IsGoverned (rs ++ es)
+
+-- All rows at a base that accepted requests left, and what those of governance read as. The other
+-- requests stand at rising seqnos, none founds a service, and each is accepted over the base after
+-- those before it.
+pub record IsAcceptedOver (base : ℕ) (all : List Row) (g : GovernedRows) (rs es : List Recorded)
+    : Type 0 where
+  pub above : 0 < base
+  pub rows : IsLeft base all rs
+  pub read : governed_rows base all ≡ Ok g
+  pub governed : IsGoverned rs
+  pub rising : IsRising es
+  pub founding : AllByRecursion (λ (r : Recorded). is_founding r.request ≡ false) es
+  pub accepted : AreAccepted base (history_over (Some g) []) es
 
 -- The write set of a request after others over a base.
 abbrev pub writes_over : Option GovernedRows → List Recorded → Recorded → List Write

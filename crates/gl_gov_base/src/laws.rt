@@ -15,7 +15,7 @@ ghost use Rattle.gl_gov_rules.specs.Rows.{effect_writes, member_rows, node_rows,
 ghost use Rattle.gl_gov_rules.specs.Service.{dealing, shares_given, threshold_of};
 ghost use Rattle.gl_gov_base.specs.Alike.{is_up_to};
 ghost use Rattle.gl_gov_base.specs.AtBase.{of_number};
-ghost use Rattle.gl_gov_base.specs.Law.{IsLeft, IsOver, writes_over};
+ghost use Rattle.gl_gov_base.specs.Law.{IsAcceptedOver, IsLeft, IsOver, writes_over};
 ghost use Rattle.gl_gov_base.specs.SameBy.{SameBy};
 
 /// Governance over a base is the same as over the whole ledger. Of requests that were accepted one
@@ -25,7 +25,8 @@ ghost use Rattle.gl_gov_base.specs.SameBy.{SameBy};
 /// is told of its proposal, all rows, the service, the nodes, those that are trusted, those that
 /// are marked up to any seqno from the base on, the number of shares that count, and how many are
 /// needed are the same. So are the members, but for their order: over a base those up to it stand by
-/// number, in a whole ledger as they came.
+/// number, in a whole ledger as they came. And requests that are accepted over the base one after
+/// another, at rising seqnos and none of them a founding, are accepted after all requests too.
 pub fn law_of_base()
     ensures read { (base : ℕ) (all : List Row) (rs : List Recorded) →
         IsLeft base all rs → IsGoverned rs → is_nothing rs ≡ false →
@@ -73,4 +74,6 @@ pub fn law_of_base()
         IsOver base all g rs es →
         SameBy of_number (member_rows (history (rs ++ es)))
         (member_rows (history_over (Some g) es)) }
+    ensures accepted { (base : ℕ) (all : List Row) (g : GovernedRows) (rs es : List Recorded) →
+        IsAcceptedOver base all g rs es → IsGoverned (rs ++ es) }
 {}

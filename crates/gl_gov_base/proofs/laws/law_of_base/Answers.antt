@@ -1,5 +1,6 @@
 use Rattle.std.proofs.Common.{ap}
 use Rattle.gl_gov_rules.specs.Service.{threshold_of}
+use Rattle.gl_gov_base.proofs.AcceptedOver.{governed_over}
 use Rattle.gl_gov_base.proofs.AlwaysRead.{always_read}
 use Rattle.gl_gov_base.proofs.AtBase.{alike_over, effects_over, share_counts}
 use Rattle.gl_gov_base.proofs.SameReadings.{same_trusted}
@@ -21,4 +22,5 @@ returns c = record {
   shares = share_counts;
   needed = λ base all g rs es over. ap threshold_of (alike_over base all g rs es over).dealing;
   members = λ base all g rs es over. same_member_rows base _ _ (alike_over base all g rs es over);
+  accepted = governed_over;
 }

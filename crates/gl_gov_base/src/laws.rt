@@ -24,9 +24,10 @@ ghost use Rattle.gl_gov_base.specs.SameBy.{SameBy};
 /// fields are in their ranges, is refused alike; one that isn't refused writes the same; and what
 /// is told of its proposal, all rows, the service, the nodes, those that are trusted, those that
 /// are marked up to any seqno from the base on, the number of shares that count, and how many are
-/// needed are the same. So are the members, but for their order: over a base those up to it stand by
-/// number, in a whole ledger as they came. And requests that are accepted over the base one after
-/// another, at rising seqnos and none of them a founding, are accepted after all requests too.
+/// needed are the same. So are the members, but for their order: over a base those up to it stand
+/// by number, in a whole ledger as they came. And requests that are accepted over the base one
+/// after another, at rising seqnos and none of them a founding, are accepted after all requests
+/// too.
 pub fn law_of_base()
     ensures read { (base : ℕ) (all : List Row) (rs : List Recorded) →
         IsLeft base all rs → IsGoverned rs → is_nothing rs ≡ false →

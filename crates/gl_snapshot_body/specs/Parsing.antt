@@ -96,9 +96,9 @@ body_at unread = do
 abbrev pub body_in : ℕ → List ℕ → Result Body CodeFault
 body_in at bytes = whole_at body_at at bytes
 
--- The place of a fault: of a field cut short it is the end of the bytes, of a length above its limit
--- and of a number out of its range that of the field, of a byte that is no text its own, and of
--- bytes that are left over that of the first.
+-- The place of a fault: of a field cut short it is the end of the bytes, of a length above its
+-- limit and of a number out of its range that of the field, of a byte that is no text its own, and
+-- of bytes that are left over that of the first.
 abbrev pub cut_place : CutFault → ℕ
 cut_place (Short at) = at
 cut_place (TooLong at len) = at

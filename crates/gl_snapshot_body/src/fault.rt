@@ -7,8 +7,8 @@ ghost use Rattle.gl_snapshot_body.specs.Parsing.{place_of};
 use gl_base::{CodeFault, CutFault, OrNoMemory};
 use thiserror::Error;
 
-/// Bytes are no body: the first fault from the left stands at `at`, counted on from the place of the
-/// first byte.
+/// Bytes are no body: the first fault from the left stands at `at`, counted on from the place of
+/// the first byte.
 #[derive(Clone, Copy, Debug, PartialEq, Eq, Error)]
 #[error("the body has a fault at {at}")]
 pub struct ShapeFault {

@@ -102,6 +102,13 @@ def signed(data, seqno, commit, view):
     return frame(view, seqno, 3, content)
 
 
+def evidence(data, seqno):
+    """The evidence of the snapshot of a ledger."""
+    service = reader.Service()
+    service.follow_all(data)
+    return frame(2, seqno, 4, sha256(service.snapshot_body()))
+
+
 def put(at, data):
     """As many other bytes."""
     return at, len(data), data
@@ -151,6 +158,7 @@ ACK = b"\x05\x01" + bytes(4)
 STRANGER = b"\x05\x07" + bytes(4)
 JOIN = b"\x03" + BASE[NODE_KEY : NODE_KEY + 56] + bytes(4)
 EVIDENCE = bytes(range(32))
+SHOWN = evidence(BASE, 5)  # it breaks no rule
 UNPUBLIC = b"\x01\x00\x01\x01t\x01\x00a"
 RESERVED = b"\x01\x00\x01\x16public:ccf.gov.members\x01\x00\x01"
 ROW_A, ROW_B = b"\x08public:t\x01\x00a", b"\x08public:t\x01\x00b"  # 01 stands in the first
@@ -271,7 +279,9 @@ BASE_ROWS = [
     ("another value and the root that fits", [*FORGED, put(E4 + ROOT, FORGED_ROOT)], 4, 11),
     ("a signature without a byte", [behind(unsigned(BASE, 5, 4))], 5, 11),
     # Rule 12.
-    ("evidence", [behind(frame(2, 5, 4, EVIDENCE))], 5, 12),
+    ("evidence with another digest", [behind(frame(2, 5, 4, EVIDENCE))], 5, 12),
+    ("evidence behind an application", [(E4, END - E4, evidence(BASE[:E4], 4))], 4, 12),
+    ("evidence behind evidence", [behind(SHOWN + evidence(BASE + SHOWN, 6))], 6, 12),
     # Several at once: the first entry is reported, and of it the least rule.
     (
         "1 before 2: flags, and a seqno",

@@ -5,7 +5,8 @@
 
 HEX is the service's key, 60 bytes as lower-case hexadecimal; the ledger is FILE, or the standard
 input. It prints `valid LAST SIGNED` (status 0), `fault seqno N rule R` or `fault foreign HEX`
-(status 1), as docs/AUDIT.md tells. It knows that page, docs/FORMATS.md and RFC 8554 alone.
+(status 1), as docs/AUDIT.md tells. It knows that page, docs/FORMATS.md, the bytes of a snapshot's
+body (crates/gl_snapshot_body/README.md) and RFC 8554 alone.
 
 Of requests of governance rules 7 and 8 are tried where they found the service, once or again. The
 write set of any other is taken as it stands, and that is said on the standard error.
@@ -20,6 +21,7 @@ GOVERNANCE, APPLICATION, SIGNATURE, EVIDENCE = range(1, 5)  # kinds of entries
 GET, HAS, PUT, REMOVE, ADD, CHECK, FOLLOW, SIZE = range(1, 9)  # operations
 GENESIS, RECOVER, JOIN, MARK, ACK, PROPOSE, BALLOT, WITHDRAW, SHARE = range(1, 10)
 BODY_LIMIT = 2**20
+SNAPSHOT_LIMIT = 4_000_000_000
 GOVERNED = b"public:ccf.gov."
 DONE, NONE, NO, YES = b"\x00", b"\x01", b"\x03", b"\x04"  # answers without a field
 PENDING, TRUSTED, RETIRED = b"\x01", b"\x02", b"\x03"  # statuses of nodes
@@ -53,6 +55,10 @@ def from_little(data):
 
 def behind_length(data):
     return little(len(data), 4) + data
+
+
+def behind_count(parts):
+    return little(len(parts), 4) + b"".join(parts)
 
 
 class Fields:
@@ -297,7 +303,7 @@ class Entry:
             self.node, self.commit, self.root = fields.take(32), fields.number(8), fields.take(32)
             self.signature = fields.signature()
         else:
-            fields.take(32)
+            self.digest = fields.take(32)
         fields.end()
 
     def asks(self, *tags):
@@ -412,6 +418,7 @@ class Service:
         self.identity = None  # the key in force, which the last genesis or recovery names
         self.tables = {}
         self.tree = Tree()
+        self.views = []  # each view, and its first place
         self.signed = {}  # the identifier of each signature, by its seqno
         self.commit = 0  # the one that the last signature records
         self.marked = []  # the nodes that were marked since
@@ -440,8 +447,11 @@ class Service:
         """Takes the next entry, or tells the first rule that it breaks."""
         required(entry.seqno == self.seqno + 1 < 2**40, 2)
         self.check_order(entry)
-        required(entry.kind != EVIDENCE, 12)
-        checks = {APPLICATION: self.check_application, SIGNATURE: self.check_signature}
+        checks = {
+            APPLICATION: self.check_application,
+            SIGNATURE: self.check_signature,
+            EVIDENCE: self.check_evidence,
+        }
         checks.get(entry.kind, self.check_governance)(entry)
         self.take(entry)
 
@@ -486,7 +496,26 @@ class Service:
         message = signed_message(entry.root, entry.view, entry.seqno, entry.commit)
         required(is_signed_by(entry.node, self.identity, message, entry.signature), 11)
 
+    def check_evidence(self, entry):
+        required(self.last.kind == SIGNATURE, 12)
+        body = self.snapshot_body()
+        required(len(body) <= SNAPSHOT_LIMIT and entry.digest == sha256(body), 12)
+
+    def snapshot_body(self):
+        """The body of the snapshot of the entries so far."""
+        head = little(self.seqno, 8) + little(self.last.view, 4) + little(self.commit, 8)
+        views = [little(view, 4) + little(first, 8) for view, first in self.views]
+        rows = [
+            little(len(name), 1) + name + little(len(key), 2) + key + behind_length(value)
+            for name, table in sorted(self.tables.items())
+            for key, value in sorted(table.items())
+        ]
+        peaks = [root for _, root in self.tree.roots]
+        return head + behind_count(views) + behind_count(peaks) + behind_count(rows)
+
     def take(self, entry):
+        if self.last is None or self.last.view < entry.view:
+            self.views.append((entry.view, entry.seqno))
         for (name, key), value in entry.writes.items():
             rows = self.tables.setdefault(name, {})
             rows[key] = value

@@ -8,7 +8,7 @@ use Rattle.gl_ledger.specs.declared.breach.EntryRefusal.TheVariants as entry
 use Rattle.gl_ledger.specs.declared.refusal.Refusal as store
 use Rattle.gl_ledger.specs.declared.refusal.Refusal.TheVariants as ledger
 use Rattle.gl_ledger.specs.declared.response.Rejection.{Rejection}
-use Rattle.gl_ledger.specs.declared.response.Rejection.TheVariants.{ByStore, Unencodable, NoEntry, NoEvidenceYet, Founding, ByRule}
+use Rattle.gl_ledger.specs.declared.response.Rejection.TheVariants.{ByStore, Unencodable, NoEntry, NotAfterSignature, Founding, ByRule}
 use Rattle.gl_rules.specs.Outcome as rules
 use Rattle.gl_answers.specs.Reasons.{entry_reason, governance_reason, most_values, reason_of, rejected_reason, store_reason}
 
@@ -52,7 +52,7 @@ few_of_rejected : (why : Rejection) → length (rejected_reason why).values ≤ 
 few_of_rejected (ByStore why) = few_of_store why
 few_of_rejected Unencodable = lit≤ tt
 few_of_rejected NoEntry = lit≤ tt
-few_of_rejected NoEvidenceYet = lit≤ tt
+few_of_rejected NotAfterSignature = lit≤ tt
 few_of_rejected Founding = lit≤ tt
 few_of_rejected (ByRule broken) = few_of_entry broken.refusal
 

@@ -15,7 +15,7 @@ use Rattle.gl_ledger.specs.declared.breach.EntryRefusal.TheVariants as entry
 use Rattle.gl_ledger.specs.declared.refusal.Refusal as store
 use Rattle.gl_ledger.specs.declared.refusal.Refusal.TheVariants as ledger
 use Rattle.gl_ledger.specs.declared.response.Rejection.{Rejection}
-use Rattle.gl_ledger.specs.declared.response.Rejection.TheVariants.{ByStore, Unencodable, NoEntry, NoEvidenceYet, Founding, ByRule}
+use Rattle.gl_ledger.specs.declared.response.Rejection.TheVariants.{ByStore, Unencodable, NoEntry, NotAfterSignature, Founding, ByRule}
 use Rattle.gl_rules.specs.Outcome as rules
 use Rattle.gl_replication.specs.declared.done.Refusal.{Refusal}
 use Rattle.gl_replication.specs.declared.done.Refusal.TheVariants as refusals
@@ -90,7 +90,7 @@ abbrev pub rejected_reason : Rejection → Reason
 rejected_reason (ByStore why) = store_reason why
 rejected_reason Unencodable = numbers 117 []
 rejected_reason NoEntry = numbers 117 []
-rejected_reason NoEvidenceYet = numbers 117 []
+rejected_reason NotAfterSignature = numbers 129 []
 rejected_reason Founding = numbers 117 []
 rejected_reason (ByRule broken) = entry_reason broken.refusal
 

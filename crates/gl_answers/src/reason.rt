@@ -88,10 +88,10 @@ pub(crate) fn rejected_reason(alloc: Global, why: Rejection) -> Result<Reason, A
 {
     match why {
         Rejection::ByStore(refusal) => store_reason(alloc, refusal),
-        Rejection::Unencodable
-        | Rejection::NoEntry
-        | Rejection::NoEvidenceYet
-        | Rejection::Founding => Reason::numbers(alloc, 117, &[]),
+        Rejection::Unencodable | Rejection::NoEntry | Rejection::Founding => {
+            Reason::numbers(alloc, 117, &[])
+        }
+        Rejection::NotAfterSignature => Reason::numbers(alloc, 129, &[]),
         Rejection::ByRule(broken) => entry_reason(alloc, broken.refusal),
     }
 }

@@ -31,7 +31,7 @@ use Rattle.gl_ledger.proofs.Auditing.{audited_none, audited_all}
 -- ---- writes
 
 -- the i-th entry has the seqno i after the first one's
-abbrev CountFrom : ℕ → List Entry → Type 0
+abbrev pub CountFrom : ℕ → List Entry → Type 0
 CountFrom n es = (i : ℕ) (e : Entry) → slice_get es i ≡ Some e → e.seqno ≡ n + i
 
 placed_within : (to place : ℕ) (ws : List Write) → place ≤ to → up_to to (placed_at place ws) ≡ placed_at place ws
@@ -58,7 +58,7 @@ none_within n to (e ∷ es) count low =
     ∙ ap₂ (λ (ps qs : List Placed). ps ++ qs) (placed_above to e.seqno e.writes (let at = count 0 e refl in omega (arith, at)))
     (none_within (suc n) to es (λ i f at. count (suc i) f at ∙ omega arith) (omega arith))
 
-writes_from-take : (n : ℕ) (es : List Entry) (to : ℕ) → CountFrom (suc n) es → writes_of (take to es) ≡ up_to (n + to) (writes_of es)
+pub writes_from-take : (n : ℕ) (es : List Entry) (to : ℕ) → CountFrom (suc n) es → writes_of (take to es) ≡ up_to (n + to) (writes_of es)
 writes_from-take n es zero count = sym (none_within (suc n) (n + 0) es count (omega arith))
 writes_from-take n [] (suc to) count = refl
 writes_from-take n (e ∷ es) (suc to) count =

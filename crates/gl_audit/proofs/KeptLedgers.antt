@@ -1,5 +1,5 @@
 -- What is kept of a ledger: of one of no entries, with one more entry, settled, and cut.
-use Rattle.std.proofs.Common.{◌≡◌, ℕ, ◌+◌, ◌-◌, ◌<◌, ◌≤◌, nat_le, ◌==◌, List, [], ◌∷◌, ◌++◌, length, take, Option, Some, None, Bool, true, false, if◌then◌else◌, refl, sym, ◌∙◌, ap, ap₂, subst, arith, length-append}
+use Rattle.std.proofs.Common.{◌≡◌, ℕ, ◌+◌, ◌-◌, ◌<◌, ◌≤◌, nat_le, ◌==◌, List, [], ◌∷◌, ◌++◌, length, take, max, Option, Some, None, Bool, true, false, if◌then◌else◌, refl, sym, ◌∙◌, ap, ap₂, subst, arith, length-append}
 use Rattle.std.proofs.lemmas.Bool.Decides.{nat_tests}
 use Rattle.std.specs.List.Sorted.{IsPartitionPoint, IsPartitionedBy}
 use Rattle.gl_base.specs.TxId.{last_seqno}
@@ -23,7 +23,7 @@ use Rattle.gl_ledger.specs.ServiceRow.{service_state, state_of_value, identity_i
 use Rattle.gl_ledger.specs.Tree.{writes_of, tables_of, leaves_of}
 use Rattle.gl_requests.specs.Parsing.{request_in}
 use Rattle.gl_ledger.specs.NodeKeys.{service_layers}
-use Rattle.gl_ledger.specs.Recordings.{recording_of, governance_recording, recorded_at, recorded_in, requests_of}
+use Rattle.gl_ledger.specs.Recordings.{last_entry, recording_of, governance_recording, recorded_at, recorded_in, requests_of}
 use Rattle.gl_ledger.specs.Broken.{broken}
 use Rattle.gl_ledger.specs.Audit.{audited}
 use Rattle.gl_gov_rules.specs.declared.change.Recorded.{Recorded}
@@ -37,8 +37,8 @@ use Rattle.gl_ledger.proofs.Governed.{follows, above}
 use Rattle.gl_ledger.proofs.Sounding.{sound-push, sound_empty}
 use Rattle.gl_ledger.proofs.TablesLaws.{writes_of-push, tables_of-push, leaves_of-push}
 use Rattle.gl_ledger.proofs.Valid.{valid_sound, valid-push}
-use Rattle.gl_audit.specs.Ends.{no_end, end_of, end_with}
-use Rattle.gl_audit.specs.Kept.{seqno_if, signature_seqnos, key_of, IsStateOf, IsWhole}
+use Rattle.gl_audit.specs.Ends.{no_end, end_of, end_with, view_of}
+use Rattle.gl_audit.specs.Kept.{seqno_if, start_if, starts_up_to, signature_seqnos, key_of, IsStateOf, IsWhole}
 use Rattle.gl_audit.specs.declared.ledger_end.LedgerEnd.{LedgerEnd}
 use Rattle.gl_audit.specs.declared.ledger_state.LedgerState.{LedgerState}
 use Rattle.gl_audit.proofs.Ends.{end_of-push}
@@ -48,13 +48,15 @@ use Rattle.gl_ledger.proofs.TablesLaws.{length-leaves_of}
 use Rattle.gl_audit.proofs.Cutting.{writes_of-take, requests_of-take, leaves_of-take, audited-take}
 use Rattle.gl_ledger.proofs.Founded.{length_identity}
 use Rattle.gl_audit.proofs.SignatureSeqnos.{seqnos-push, seqnos-take, seqnos-partitioned}
+use Rattle.gl_audit.proofs.ViewStarts.{view_named, starts-push, starts-take}
+use Rattle.gl_snapshot_body.specs.declared.body.ViewStart.{ViewStart}
 
 -- ---- no entries
 
-pub state_empty : (s : LedgerState) → s.end ≡ no_end → s.signatures.items ≡ [] → s.gov ≡ [] → s.service_state ≡ Opening → s.identity ≡ None → StandsFor s.tables [] → s.tables.base ≡ 0 →
+pub state_empty : (s : LedgerState) → s.end ≡ no_end → s.signatures.items ≡ [] → s.views.items ≡ [] → s.gov ≡ [] → s.service_state ≡ Opening → s.identity ≡ None → StandsFor s.tables [] → s.tables.base ≡ 0 → s.tables.compacted ≡ 0 →
     s.frontier.base ≡ 0 → s.frontier.peaks ≡ [] → s.frontier.leaves ≡ [] → IsStateOf [] s
 unfolding peaks_of peaks_within
-state_empty s ends unsigned ungoverned opening unknown nothing start base peaks leaves = record {
+state_empty s ends unsigned unseen ungoverned opening unknown nothing start whole base peaks leaves = record {
   valid = audited_all service_layers [] (λ i e at. absurd (cc));
   sound = sound_empty service_layers;
   named = omega arith;
@@ -65,7 +67,9 @@ state_empty s ends unsigned ungoverned opening unknown nothing start base peaks 
   identity_is = unknown ∙ sym (ap (λ (o : Option (List ℕ)). key_of (identity_of_value o)) (value_in-nothing service_map service_key));
   tables_are = nothing;
   tables_from = start;
+  compacted = omega (arith, whole);
   tree = record { below = []; is_base = record { count = sym base; peaks = sym peaks }; leaves_are = leaves };
+  views = unseen;
 }
 
 -- ---- the service's key
@@ -142,11 +146,12 @@ pub record AreReported (tables : kept.Kept) (state : ServiceState) (identity : O
 
 -- an entry that breaks no rule, with its writes and its leaf
 pub state-push : (ledger : List Entry) (old new : LedgerState) (e : Entry) → IsStateOf ledger old → broken service_layers ledger e ≡ None → new.end ≡ end_with old.end e →
-    new.signatures.items ≡ old.signatures.items ++ seqno_if (is_signature e.content) e.seqno [] → new.gov ≡ old.gov ++ recorded_in e.seqno e.content → HasWritten old.tables e new.tables →
+    new.signatures.items ≡ old.signatures.items ++ seqno_if (is_signature e.content) e.seqno [] → new.views.items ≡ old.views.items ++ start_if (view_of old.end.last) e →
+    new.gov ≡ old.gov ++ recorded_in e.seqno e.content → HasWritten old.tables e new.tables →
     AreReported new.tables new.service_state new.identity →
     ((ps : List Placed) → StandsFor new.tables ps → frontiers.HasLeaves old.frontier new.frontier (old.frontier.leaves ++ leaf_of (identity_in (written_by ps)) e ∷ [])) →
     IsStateOf (ledger ++ e ∷ []) new
-state-push ledger old new e k unbroken ends signed recorded written reported grown = record {
+state-push ledger old new e k unbroken ends signed started recorded written reported grown = record {
   valid = valid-push service_layers ledger e k.valid unbroken;
   sound = sound-push service_layers ledger e k.sound unbroken;
   named = simp length-append (omega (arith, at.1));
@@ -159,6 +164,7 @@ state-push ledger old new e k unbroken ends signed recorded written reported gro
   identity_is = reported.identity_reported all stands;
   tables_are = stands;
   tables_from = written.base ∙ k.tables_from;
+  compacted = let before = k.compacted in let same = written.whole in simp length-append (omega (arith, before, same));
   tree = record {
     below = k.tree.below;
     is_base = record { count = k.tree.is_base.count ∙ sym (grown all stands).base; peaks = k.tree.is_base.peaks ∙ sym (grown all stands).peaks };
@@ -168,6 +174,8 @@ state-push ledger old new e k unbroken ends signed recorded written reported gro
         ∙ ap (λ (ls : List (List ℕ)). ls ++ leaf_of (identity_in (tables_of (ledger ++ e ∷ []))) e ∷ []) k.tree.leaves_are
         ∙ ap (λ (t : Rattle.gl_vmaps.specs.Tables.Tables). leaves_of ledger ++ leaf_of (identity_in t) e ∷ []) (tables_of-push ledger e) ∙ sym (leaves_of-push ledger e);
   };
+  views = started ∙ ap₂ (λ (vs : List ViewStart) (view : ℕ). vs ++ start_if view e) k.views (ap (λ (end : LedgerEnd). view_of end.last) k.ends ∙ view_named 0 (last_entry ledger) refl)
+      ∙ sym (starts-push 0 ledger e);
 }
   where
     at : (e.seqno ≡ length ledger + 1) × (length ledger + 1 ≤ last_seqno)
@@ -182,9 +190,9 @@ state-push ledger old new e k unbroken ends signed recorded written reported gro
 -- ---- a state that other values have
 
 -- what is the same but for the nodes known is the state of the same ledger
-pub state_same : (ledger : List Entry) (old new : LedgerState) → IsStateOf ledger old → new.end ≡ old.end → new.signatures.items ≡ old.signatures.items → new.gov ≡ old.gov → new.tables ≡ old.tables →
+pub state_same : (ledger : List Entry) (old new : LedgerState) → IsStateOf ledger old → new.end ≡ old.end → new.signatures.items ≡ old.signatures.items → new.views.items ≡ old.views.items → new.gov ≡ old.gov → new.tables ≡ old.tables →
     new.service_state ≡ old.service_state → new.identity ≡ old.identity → frontiers.IsUnchanged old.frontier new.frontier → IsStateOf ledger new
-state_same ledger old new k ends signed governed tables state identity leaves = record {
+state_same ledger old new k ends signed started governed tables state identity leaves = record {
   valid = k.valid;
   sound = k.sound;
   named = k.named;
@@ -195,11 +203,13 @@ state_same ledger old new k ends signed governed tables state identity leaves = 
   identity_is = identity ∙ k.identity_is;
   tables_are = subst (λ (t : kept.Kept). StandsFor t (writes_of ledger)) (sym tables) k.tables_are;
   tables_from = ap (λ (t : kept.Kept). t.base) tables ∙ k.tables_from;
+  compacted = subst (λ (t : kept.Kept). t.compacted ≤ length ledger) (sym tables) k.compacted;
   tree = record {
     below = k.tree.below;
     is_base = record { count = k.tree.is_base.count ∙ sym leaves.base; peaks = k.tree.is_base.peaks ∙ sym leaves.peaks };
     leaves_are = ap (λ (ls : List (List ℕ)). k.tree.below ++ ls) leaves.leaves_are ∙ k.tree.leaves_are;
   };
+  views = started ∙ k.views;
 }
 
 pub whole_same : (old new : LedgerState) → IsWhole old → new.tables ≡ old.tables → frontiers.IsUnchanged old.frontier new.frontier → IsWhole new
@@ -207,11 +217,11 @@ whole_same old new w tables leaves = record { tables = ap (λ (t : kept.Kept). t
 
 -- ---- a state that is settled
 
-pub state_settled : (ledger : List Entry) (old new : LedgerState) → IsStateOf ledger old → new.end ≡ old.end → new.signatures.items ≡ old.signatures.items → new.gov ≡ old.gov →
+pub state_settled : (ledger : List Entry) (old new : LedgerState) → IsStateOf ledger old → new.end ≡ old.end → new.signatures.items ≡ old.signatures.items → new.views.items ≡ old.views.items → new.gov ≡ old.gov →
     new.service_state ≡ old.service_state → new.identity ≡ old.identity → ((ps : List Placed) → StandsFor old.tables ps → StandsFor new.tables ps) → new.tables.base ≡ old.tables.base →
-    (len : ℕ) (peaks : List (List ℕ)) → len ≡ frontiers.count_of old.frontier → frontiers.ForLeaves old.frontier (λ leaves. peaks ≡ peaks_of (take len leaves)) →
+    (len : ℕ) (peaks : List (List ℕ)) → len ≡ frontiers.count_of old.frontier → new.tables.compacted ≡ max old.tables.compacted len → frontiers.ForLeaves old.frontier (λ leaves. peaks ≡ peaks_of (take len leaves)) →
     new.frontier.base ≡ len → new.frontier.peaks ≡ peaks → new.frontier.leaves ≡ [] → IsStateOf ledger new
-state_settled ledger old new k ends signed governed state identity stood from len peaks whole all base are none = record {
+state_settled ledger old new k ends signed started governed state identity stood from len peaks whole settled all base are none = record {
   valid = k.valid;
   sound = k.sound;
   named = k.named;
@@ -222,11 +232,13 @@ state_settled ledger old new k ends signed governed state identity stood from le
   identity_is = identity ∙ k.identity_is;
   tables_are = stood (writes_of ledger) k.tables_are;
   tables_from = from ∙ k.tables_from;
+  compacted = let before = k.compacted in omega (arith, before, settled, count);
   tree = record {
     below = leaves_of ledger;
     is_base = record { count = length-leaves_of ledger ∙ sym count ∙ sym base; peaks = sym (are ∙ peaks_all) };
     leaves_are = ap (λ (ls : List (List ℕ)). leaves_of ledger ++ ls) none ∙ append-nil (leaves_of ledger);
   };
+  views = started ∙ k.views;
 }
   where
     count : len ≡ length ledger
@@ -242,11 +254,12 @@ state_settled ledger old new k ends signed governed state identity stood from le
 pub state-cut : (ledger : List Entry) (old new : LedgerState) (to : ℕ) → IsStateOf ledger old → IsWhole old → to ≤ length ledger → new.end ≡ end_of (take to ledger) →
     (IsPartitionedBy (λ s. nat_le s to) old.signatures.items →
     (n : ℕ) × IsPartitionPoint (λ s. nat_le s to ≡ true) (λ s. nat_le s to ≡ false) old.signatures.items n × (new.signatures.items ≡ take n old.signatures.items)) →
-    new.gov ≡ governance.up_to to old.gov → ((ps : List Placed) → StandsFor old.tables ps → StandsFor new.tables (up_to to ps)) → new.tables.base ≡ old.tables.base →
+    new.views.items ≡ starts_up_to to old.views.items → new.gov ≡ governance.up_to to old.gov →
+    ((ps : List Placed) → StandsFor old.tables ps → StandsFor new.tables (up_to to ps)) → new.tables.base ≡ old.tables.base → new.tables.compacted ≡ old.tables.compacted →
     AreReported new.tables new.service_state new.identity → frontiers.HasLeaves old.frontier new.frontier (take (to - old.frontier.base) old.frontier.leaves) →
     IsStateOf (take to ledger) new
 unfolding peaks_of peaks_within
-state-cut ledger old new to k w within ends few fewer stood from reported left = record {
+state-cut ledger old new to k w within ends few started fewer stood from settled reported left = record {
   valid = valid;
   sound = valid_sound service_layers (take to ledger) valid;
   named = omega (arith, long, k.named);
@@ -257,11 +270,13 @@ state-cut ledger old new to k w within ends few fewer stood from reported left =
   identity_is = reported.identity_reported (writes_of (take to ledger)) stands;
   tables_are = stands;
   tables_from = from ∙ k.tables_from;
+  compacted = let none : new.tables.compacted ≡ 0 = settled ∙ w.tables in omega (arith, none);
   tree = record {
     below = [];
     is_base = record { count = sym (left.base ∙ w.base); peaks = sym (left.peaks ∙ w.peaks) };
     leaves_are = left.leaves_are ∙ ap₂ (λ (n : ℕ) (ls : List (List ℕ)). take n ls) (omega (arith, w.base)) (whole_leaves ledger old k w) ∙ sym (leaves_of-take ledger to);
   };
+  views = started ∙ ap (starts_up_to to) k.views ∙ sym (starts-take 0 ledger to k.sound.in_order);
 }
   where
     long : length (take to ledger) ≡ to

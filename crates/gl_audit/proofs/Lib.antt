@@ -2,6 +2,9 @@ pub mod GovStates
 pub mod Ends
 pub mod TablesLaws
 pub mod SignatureSeqnos
+pub mod ViewStarts
+pub mod GreatestCommits
+pub mod Snapshots
 pub mod LastEntries
 pub mod Beginnings
 pub mod Cutting

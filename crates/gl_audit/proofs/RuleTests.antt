@@ -23,12 +23,15 @@ use Rattle.gl_ledger.specs.Tree.{leaves_of}
 use Rattle.gl_requests.specs.Parsing.{request_in}
 use Rattle.gl_ledger.specs.NodeKeys.{service_layers}
 use Rattle.gl_ledger.specs.Recordings.{last_entry, begins, recording_of, governance_recording, application_recording, requests_of, recorded_nodes}
-use Rattle.gl_ledger.specs.Past.{last_of, past_of}
+use Rattle.gl_ledger.specs.Past.{is_signed, last_of, past_of, signs_at}
+use Rattle.gl_ledger.specs.Snapshot.{snapshot_bytes}
+use Rattle.gl_snapshot_body.specs.Body.{snapshot_limit}
+use Rattle.sha2.specs.Sha256.{sha256}
 use Rattle.gl_ledger.specs.Broken.{required}
 use Rattle.gl_rules.specs.World.{first_view}
 use Rattle.std.proofs.lemmas.Bool.{and_parts, not-true}
 use Rattle.gl_ledger.specs.Sound.{IsSound}
-use Rattle.gl_ledger.specs.Broken.{may_record, replay, breach, is_next_view, is_in_order, fault_of_signature, broken_by_fault, broken_by_signature, broken_where, broken}
+use Rattle.gl_ledger.specs.Broken.{may_record, replay, breach, is_next_view, is_in_order, fault_of_signature, broken_by_evidence, broken_by_fault, broken_by_signature, broken_where, broken}
 use Rattle.gl_gov_rules.specs.Governed as governance
 use Rattle.gl_ledger.proofs.RequestEncodings.{request_in-encoded}
 use Rattle.gl_ledger.proofs.Governed.{above, nothing_recorded}
@@ -114,6 +117,20 @@ pub signature_asked : (ledger : List Entry) (s : signatures.Signature) (e : Entr
 signature_asked ledger s e recorded signed may root pn pr ps pm =
     let same : signed ≡ same_bytes s.root (root_of (leaves_of ledger)) = ps ∙ ap (same_bytes s.root) pr in
     rw (pn, same, pr, pm) refl
+
+signed_last : (o : Option Entry) → is_signed (option_map last_of o) ≡ signs_at o
+signed_last None = refl
+signed_last (Some e) = refl
+
+-- rule 12, by the tests of it
+pub evidence_asked : (ledger : List Entry) (d : List ℕ) (e : Entry) (signed within same : Bool) (wanted : List ℕ) → signed ≡ signs_at (last_entry ledger) →
+    within ≡ nat_le (length (snapshot_bytes ledger)) snapshot_limit → wanted ≡ sha256 (snapshot_bytes ledger) → same ≡ same_bytes d wanted →
+    broken_by_evidence d (past_of ledger) e
+    ≡ required signed (breach 12 (length ledger + 1) e) (required within (breach 12 (length ledger + 1) e) (required same (replay 12 (length ledger + 1) wanted d) None))
+evidence_asked ledger d e signed within same wanted ps pw pd pf =
+    let stands : signed ≡ is_signed (option_map last_of (last_entry ledger)) = ps ∙ sym (signed_last (last_entry ledger)) in
+    let is : same ≡ same_bytes d (sha256 (snapshot_bytes ledger)) = pf ∙ ap (same_bytes d) pd in
+    rw (stands, pw, is, pd) refl
 
 -- what breaks a rule by what it records breaks it by its bytes
 pub found_by : {E : Type 0} (s : LedgerState) (e : Entry) (r : Recording) (found : Result (Option Broken) E) → recording_of e.content ≡ Some r →

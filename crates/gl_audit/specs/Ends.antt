@@ -1,5 +1,6 @@
 -- How a ledger ends.
-use Rattle.std.specs.Prelude.{◌≢◌, ◌+◌, List, None, Some, false, length, option_map, if◌then◌else◌}
+use Rattle.std.specs.Prelude.{◌≢◌, ℕ, ◌+◌, List, Option, None, Some, false, length, option_map, if◌then◌else◌}
+use Rattle.gl_base.specs.declared.tx_id.TxId.{TxId}
 use Rattle.gl_rules.specs.Log.{entry_at}
 use Rattle.gl_entry.specs.Entry.{is_signature}
 use Rattle.gl_entry.specs.Leaf.{id_of}
@@ -11,6 +12,11 @@ use Rattle.gl_audit.specs.declared.ledger_end.LedgerEnd.{LedgerEnd}
 -- The entry's bytes encode what it records.
 abbrev pub IsRead : Entry → Type 0
 IsRead e = recording_of e.content ≢ None
+
+-- The view of a transaction, 0 where there is none.
+abbrev pub view_of : Option TxId → ℕ
+view_of None = 0
+view_of (Some id) = id.view
 
 -- Of no entries.
 abbrev pub no_end : LedgerEnd

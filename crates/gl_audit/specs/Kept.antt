@@ -1,5 +1,5 @@
 -- What is kept of a ledger, so that what an entry does to it needs no scan of it.
-use Rattle.std.specs.Prelude.{◌≡◌, ℕ, suc, ◌≤◌, List, [], ◌∷◌, ◌++◌, Option, None, Some, Bool, length, ◌==◌, if◌then◌else◌}
+use Rattle.std.specs.Prelude.{◌≡◌, ℕ, suc, ◌≤◌, List, [], ◌∷◌, ◌++◌, Option, None, Some, Bool, length, filter, nat_le, ◌==◌, if◌then◌else◌}
 use Rattle.gl_base.specs.TxId.{last_seqno}
 use Rattle.gl_base.specs.declared.or_no_memory.OrNoMemory.{OrNoMemory}
 use Rattle.gl_base.specs.declared.or_no_memory.OrNoMemory.TheVariants.{NoMemory, Fault}
@@ -11,6 +11,8 @@ use Rattle.gl_ledger.specs.ServiceRow.{service_state, identity_in}
 use Rattle.gl_ledger.specs.Tree.{writes_of, tables_of, leaves_of}
 use Rattle.gl_ledger.specs.NodeKeys.{service_layers}
 use Rattle.gl_ledger.specs.Sound.{IsSound}
+use Rattle.gl_ledger.specs.Snapshot.{starts_from}
+use Rattle.gl_snapshot_body.specs.declared.body.ViewStart.{ViewStart}
 use Rattle.gl_ledger.specs.Audit.{audited}
 use Rattle.gl_ledger.specs.declared.breach.Broken.{Broken}
 use Rattle.gl_ledger.specs.Recordings.{requests_of}
@@ -27,6 +29,15 @@ signed_from seqno (e ∷ es) = seqno_if (is_signature e.content) seqno (signed_f
 -- The seqnos of a ledger's signatures, in order.
 abbrev pub signature_seqnos : List Entry → List ℕ
 signature_seqnos ledger = signed_from 1 ledger
+
+-- The start of an entry's view, where the entry before it is of another one.
+abbrev pub start_if : ℕ → Entry → List ViewStart
+start_if view e =
+    if e.view == view then [] else record { view = e.view; seqno = e.seqno } ∷ []
+
+-- The starts of views at or below a seqno.
+abbrev pub starts_up_to : ℕ → List ViewStart → List ViewStart
+starts_up_to to views = filter (λ (v : ViewStart). nat_le v.seqno to) views
 
 -- The commit that an entry records, 0 where there is none.
 abbrev pub commit_at : Option Entry → ℕ
@@ -56,7 +67,9 @@ pub record IsStateOf (ledger : List Entry) (s : LedgerState) : Type 0 where
   pub identity_is : s.identity ≡ key_of (identity_in (tables_of ledger))
   pub tables_are : StandsFor s.tables (writes_of ledger)
   pub tables_from : s.tables.base ≡ 0
+  pub compacted : s.tables.compacted ≤ length ledger
   pub tree : IsTreeOf (leaves_of ledger) s.frontier
+  pub views : s.views.items ≡ starts_from 0 ledger
 
 -- It is the state of a ledger.
 abbrev pub IsState : LedgerState → Type 0

@@ -6,3 +6,4 @@ pub mod Committed
 pub mod Binding
 pub mod Verdict
 pub mod AuditSteps
+pub mod Snapshot

@@ -116,8 +116,8 @@ fn recorded_commit(entry: Option<&Entry>) -> u64
     }
 }
 
-/// The entry with a seqno, if there is one.
-fn entry_at(entries: &[Entry], seqno: u64) -> Option<&Entry>
+/// The entry with a seqno among entries from seqno 1 on. `None` at 0 and above the last.
+pub fn entry_at(entries: &[Entry], seqno: u64) -> Option<&Entry>
     ensures { option_copied result ≡ entry_at entries.now seqno }
 {
     match seqno.checked_sub(1) {

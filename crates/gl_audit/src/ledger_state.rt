@@ -17,8 +17,8 @@ ghost use Rattle.gl_ledger.specs.Broken.{broken};
 ghost use Rattle.gl_ledger.specs.NodeKeys.{service_layers};
 ghost use Rattle.gl_entry.specs.declared.entry.Entry.{Entry};
 ghost use Rattle.gl_audit.specs.Kept.{Breaks};
-ghost use Rattle.gl_audit.specs.Kept.{seqno_if, key_of, IsStateOf, IsState, ForLedgers, IsWhole, IsSettled};
-ghost use Rattle.gl_audit.specs.Ends.{IsRead, no_end, end_of, end_with};
+ghost use Rattle.gl_audit.specs.Kept.{seqno_if, start_if, starts_up_to, key_of, IsStateOf, IsState, ForLedgers, IsWhole, IsSettled};
+ghost use Rattle.gl_audit.specs.Ends.{IsRead, no_end, end_of, end_with, view_of};
 
 use crate::gov_state::GovState;
 use crate::known_nodes::KnownNodes;
@@ -28,13 +28,16 @@ use gl_entry::{Content, Digest, Entry, leaf};
 use gl_ledger::Broken;
 use gl_merkle::Frontier;
 use gl_requests::{GovernanceRequest, HssPublicKey, ServiceState};
+use gl_snapshot_body::ViewStart;
 use gl_vmaps::Tables;
 use std::alloc::{AllocError, Global};
 
 mod rules;
 mod signatures;
+mod snapshot;
 
 pub use signatures::{count_up_to, seqno_at};
+use snapshot::{cut_starts, start_of};
 
 /// The map of the service's row (CCF documentation, "Builtin Maps").
 pub const SERVICE_MAP: &[u8] = b"public:ccf.gov.service";
@@ -42,13 +45,14 @@ pub const SERVICE_MAP: &[u8] = b"public:ccf.gov.service";
 /// The key of the service's row.
 pub const SERVICE_KEY: &[u8] = b"s";
 
-/// How a ledger ends, the seqnos of its signatures, the requests of governance that it records, the
-/// tables that its write sets make, what these tell of the service, the tree of its leaves, and the
-/// nodes whose endorsements were verified.
+/// How a ledger ends, the seqnos of its signatures, where its views start, the requests of
+/// governance that it records, the tables that its write sets make, what these tell of the service,
+/// the tree of its leaves, and the nodes whose endorsements were verified.
 #[derive(Drop)]
 pub struct LedgerState {
     pub(crate) end: LedgerEnd,
     pub signatures: Vec<u64>,
+    pub(crate) views: Vec<ViewStart>,
     pub gov: GovState,
     pub tables: Tables,
     pub service_state: ServiceState,
@@ -183,6 +187,7 @@ impl LedgerState {
     fn empty(alloc: Global) -> Result<Self, AllocError>
         ensures end { IfOk result (λ state. state.end ≡ no_end) }
         ensures signatures { IfOk result (λ state. state.signatures.items ≡ []) }
+        ensures views { IfOk result (λ state. state.views.items ≡ []) }
         ensures gov { IfOk result (λ state. state.gov ≡ []) }
         ensures tables { IfOk result (λ state. StandsFor state.tables []) }
         ensures from_start { IfOk result (λ state. state.tables.base ≡ 0) }
@@ -196,6 +201,7 @@ impl LedgerState {
         Ok(LedgerState {
             end: NO_ENTRIES,
             signatures: Vec::new(alloc),
+            views: Vec::new(alloc),
             gov: GovState::new(alloc),
             tables: Tables::new(alloc),
             service_state: ServiceState::Opening,
@@ -210,9 +216,12 @@ impl LedgerState {
     fn reserve(&mut self, more: usize) -> Result<(), AllocError>
         ensures signatures { OnOk result
             (vec_len self.new.signatures + more ≤ vec_capacity self.new.signatures) }
+        ensures views { OnOk result
+            (vec_len self.new.views + more ≤ vec_capacity self.new.views) }
         ensures frontier { OnOk result (more ≤ self.new.frontier.spare) }
         ensures end_kept { self.new.end ≡ self.old.end }
         ensures signatures_kept { self.new.signatures.items ≡ self.old.signatures.items }
+        ensures views_kept { self.new.views.items ≡ self.old.views.items }
         ensures gov_kept { self.new.gov ≡ self.old.gov }
         ensures tables_kept { self.new.tables ≡ self.old.tables }
         ensures state_kept { self.new.service_state ≡ self.old.service_state }
@@ -221,6 +230,7 @@ impl LedgerState {
     {
         self.frontier.reserve(more)?;
         self.signatures.reserve(more)?;
+        self.views.reserve(more)?;
         Ok(())
     }
 
@@ -229,10 +239,13 @@ impl LedgerState {
         requires len { self.old.end.len < u64.MAX }
         requires read { IsRead entry.now }
         requires signatures { vec_len self.old.signatures < vec_capacity self.old.signatures }
+        requires views { vec_len self.old.views < vec_capacity self.old.views }
         requires frontier { 0 < self.old.frontier.spare }
         ensures end { self.new.end ≡ end_with self.old.end entry.now }
         ensures signatures { self.new.signatures.items ≡ self.old.signatures.items
             ++ seqno_if (is_signature entry.now.content) entry.now.seqno [] }
+        ensures views { self.new.views.items
+            ≡ self.old.views.items ++ start_if (view_of self.old.end.last) entry.now }
         ensures gov { self.new.gov ≡ self.old.gov }
         ensures tables { self.new.tables ≡ self.old.tables }
         ensures state { self.new.service_state ≡ self.old.service_state }
@@ -245,6 +258,9 @@ impl LedgerState {
         }
         if matches!(entry.content, Content::Signature(_)) {
             self.signatures.push_reserved(entry.seqno);
+        }
+        if entry.view != self.view() {
+            self.views.push_reserved(start_of(entry));
         }
         self.end = self.end.with(entry);
     }
@@ -266,6 +282,8 @@ impl LedgerState {
         ensures end { OnOk result (self.new.end ≡ end_with self.old.end entry.now) }
         ensures signatures { OnOk result (self.new.signatures.items ≡ self.old.signatures.items
             ++ seqno_if (is_signature entry.now.content) entry.now.seqno []) }
+        ensures views { OnOk result (self.new.views.items
+            ≡ self.old.views.items ++ start_if (view_of self.old.end.last) entry.now) }
         ensures gov { OnOk result
             (self.new.gov ≡ self.old.gov ++ recorded_in entry.now.seqno entry.now.content) }
         ensures tables { OnOk result ((ps : List Placed) → StandsFor self.old.tables ps →
@@ -282,6 +300,7 @@ impl LedgerState {
         ensures end_kept { OnErr result (self.new.end ≡ self.old.end) }
         ensures signatures_kept { OnErr result
             (self.new.signatures.items ≡ self.old.signatures.items) }
+        ensures views_kept { OnErr result (self.new.views.items ≡ self.old.views.items) }
         ensures gov_kept { OnErr result (self.new.gov ≡ self.old.gov) }
         ensures tables_kept { OnErr result (self.new.tables ≡ self.old.tables) }
         ensures state_kept { OnErr result (self.new.service_state ≡ self.old.service_state) }
@@ -401,6 +420,7 @@ impl LedgerState {
             (n : ℕ) × IsPartitionPoint (λ seqno. nat_le seqno to ≡ true)
             (λ seqno. nat_le seqno to ≡ false) self.old.signatures.items n
             × (self.new.signatures.items ≡ take n self.old.signatures.items) }
+        ensures views { self.new.views.items ≡ starts_up_to to self.old.views.items }
         ensures gov { self.new.gov ≡ governed.up_to to self.old.gov }
         ensures tables { (ps : List Placed) → StandsFor self.old.tables ps →
             StandsFor self.new.tables (up_to to ps) }
@@ -416,6 +436,7 @@ impl LedgerState {
         let signed = count_up_to(&self.signatures, to);
         self.end = end;
         self.signatures.truncate(signed);
+        cut_starts(&mut self.views, to);
         self.gov.cut(to);
         self.tables.cut(to);
         self.frontier.cut(to);
@@ -428,6 +449,7 @@ impl LedgerState {
         ensures end { IfOk result (λ state. state.end ≡ self.now.end) }
         ensures signatures { IfOk result (λ state.
             state.signatures.items ≡ self.now.signatures.items) }
+        ensures views { IfOk result (λ state. state.views.items ≡ self.now.views.items) }
         ensures gov { IfOk result (λ state. state.gov ≡ self.now.gov) }
         ensures tables { IfOk result (λ state. state.tables ≡ self.now.tables) }
         ensures state { IfOk result (λ state. state.service_state ≡ self.now.service_state) }
@@ -437,6 +459,7 @@ impl LedgerState {
         Ok(LedgerState {
             end: self.end,
             signatures: Vec::from_slice(alloc, &self.signatures)?,
+            views: Vec::from_slice(alloc, &self.views)?,
             gov: self.gov.copy()?,
             tables: self.tables.copy()?,
             service_state: self.service_state,

@@ -22,7 +22,7 @@ pub use gl_entry::ReadFault;
 pub use gov_state::{GovState, is_founding};
 pub use laws::{law_of_receipts, law_of_verdicts};
 pub use ledger_audit::audit;
-pub use ledger_end::{LedgerEnd, is_unopened};
+pub use ledger_end::{LedgerEnd, entry_at, is_unopened};
 pub use ledger_state::{LedgerState, SERVICE_KEY, SERVICE_MAP, count_up_to, seqno_at};
 pub use receipt_laws::law_of_receipts_in_ledgers;
 pub use service_key::key_after;

@@ -18,13 +18,14 @@ use Rattle.gl_gov_rules.specs.declared.change.RecordedNode.{RecordedNode}
 use Rattle.gl_gov_rules.specs.declared.change.Change.{Change}
 use Rattle.gl_gov_rules.specs.declared.change.Changed.{Changed}
 use Rattle.gl_gov_rules.specs.declared.request_facts.GivenShare.{GivenShare}
-use Rattle.gl_gov_rules.specs.History.{Answered, History, nothing, last_set}
+use Rattle.gl_gov_rules.specs.declared.carried.Answered.{Answered}
+use Rattle.gl_gov_rules.specs.History.{History, nothing, last_set}
 use Rattle.gl_gov_rules.specs.Nodes.{nodes_recorded}
 use Rattle.gl_gov_rules.specs.Service.{sets_rules, constitution, sets_dealing, dealing, identity, is_recovered, service_state, last_clearing, share_in, given_share, given_in, given_after, given, shares_given}
 use Rattle.gl_gov_rules.specs.Proposals.{answers_with}
-use Rattle.gl_gov_rules.specs.Changes.{request_changes, changes_of, changed_at, with_request, history}
-use Rattle.gl_gov_rules.specs.Rows.{rule_writes_from, rule_writes_of, write_of, dealing_write, member_rows, member_write, node_rows, node_write, proposal_writes, service_row, service_write, share_write, all_rows, rows, effect_writes}
-use Rattle.gl_gov_rules.proofs.Prefixes.{requests_with, changes_with, history-more}
+use Rattle.gl_gov_rules.specs.Changes.{request_changes, changes_of, changed_at, with_request}
+use Rattle.gl_gov_rules.specs.Rows.{rule_writes_from, rule_writes_of, write_of, dealing_write, member_rows, member_write, node_rows, node_write, proposal_writes, service_row, service_write, share_write, all_rows, rows}
+use Rattle.gl_gov_rules.proofs.Prefixes.{requests_with, changes_with}
 use Rattle.gl_gov_rules.proofs.HistoryLists.{nodes_after}
 use Rattle.gl_gov_rules.proofs.NothingCarried.{carried_with}
 use Rattle.gl_gov_rules.proofs.RowsSet.{are_rows_rows}
@@ -216,30 +217,29 @@ unfolding is_selected
 selected_touched t ws = filter_agree (is_selected (selections.Touched t)) (is_touched t) (λ w. refl) ws
 
 -- the write set of a request turns the rows that it touches into those after it
-pub effect_touched : (rs : List Recorded) (r : Recorded) →
-    changes (write_set (filter (is_selected (selections.Touched (touched_by (history rs) r))) (all_rows (history rs))))
-    (write_set (filter (is_selected (selections.Touched (touched_by (history rs) r))) (all_rows (history (rs ++ r ∷ [])))))
-    ≡ effect_writes rs r
+pub effect_touched : (h : History) (r : Recorded) →
+    changes (write_set (filter (is_selected (selections.Touched (touched_by h r))) (all_rows h)))
+    (write_set (filter (is_selected (selections.Touched (touched_by h r))) (all_rows (with_request h r))))
+    ≡ changes (rows h) (rows (with_request h r))
 unfolding rows
-effect_touched rs r =
-    let h = history rs in
-    let k = history (rs ++ r ∷ []) in
+effect_touched h r =
+    let k = with_request h r in
     let touched = touched_by h r in
-    let same : left touched (all_rows h) ≡ left touched (all_rows k) = sym (ap (λ (x : History). left touched (all_rows x)) (history-more rs r) ∙ untouched h r) in
     ap₂ (λ (xs ys : List Write). changes (write_set xs) (write_set ys)) (selected_touched touched (all_rows h)) (selected_touched touched (all_rows k))
-    ∙ sym (changes_of_part (is_touched touched) (asks_touched touched) (all_rows h) (all_rows k) (rows_are_rows h) (rows_are_rows k) same)
+    ∙ sym (changes_of_part (is_touched touched) (asks_touched touched) (all_rows h) (all_rows k) (rows_are_rows h) (rows_are_rows k) (sym (untouched h r)))
 
 -- so what is told of a request that is recorded is its write set
-pub reported_writes : (past : History) (rs next : List Recorded) (r : Recorded) (touched : Touched) (before writes : List Write) → past ≡ history rs → touched ≡ touched_by past r →
-    before ≡ write_set (filter (is_selected (selections.Touched touched)) (all_rows (history rs))) → next ≡ rs ++ r ∷ [] →
-    writes ≡ changes before (write_set (filter (is_selected (selections.Touched touched)) (all_rows (history next)))) → writes ≡ effect_writes rs r
-reported_writes past rs next r touched before writes of by old pushed reported =
+pub reported_writes : (past next : History) (r : Recorded) (touched : Touched) (before writes : List Write) → touched ≡ touched_by past r →
+    before ≡ write_set (filter (is_selected (selections.Touched touched)) (all_rows past)) → next ≡ with_request past r →
+    writes ≡ changes before (write_set (filter (is_selected (selections.Touched touched)) (all_rows next))) → writes ≡ changes (rows past) (rows next)
+reported_writes past next r touched before writes by old pushed reported =
     reported
-    ∙ ap₂ (λ (xs : List Write) (ys : List Recorded). changes xs (write_set (filter (is_selected (selections.Touched touched)) (all_rows (history ys))))) old pushed
+    ∙ ap₂ (λ (xs : List Write) (h : History). changes xs (write_set (filter (is_selected (selections.Touched touched)) (all_rows h)))) old pushed
     ∙ ap
-    (λ (x : Touched). changes (write_set (filter (is_selected (selections.Touched x)) (all_rows (history rs)))) (write_set (filter (is_selected (selections.Touched x)) (all_rows (history (rs ++ r ∷ []))))))
-    (by ∙ ap (λ (h : History). touched_by h r) of)
-    ∙ effect_touched rs r
+    (λ (x : Touched). changes (write_set (filter (is_selected (selections.Touched x)) (all_rows past))) (write_set (filter (is_selected (selections.Touched x)) (all_rows (with_request past r)))))
+    by
+    ∙ effect_touched past r
+    ∙ ap (λ (h : History). changes (rows past) (rows h)) (sym pushed)
 
 -- ---- whether a request changes more, by its changes at its seqno
 

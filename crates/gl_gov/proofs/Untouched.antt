@@ -32,7 +32,9 @@ use Rattle.gl_gov_rules.specs.declared.row.Vote.{Vote}
 use Rattle.gl_gov_rules.specs.declared.row.MemberRow.{MemberRow}
 use Rattle.gl_gov_rules.specs.declared.row.NodeRow.{NodeRow}
 use Rattle.gl_gov_rules.specs.declared.row.ProposalRow.{ProposalRow}
-use Rattle.gl_gov_rules.specs.History.{Answered, Carried, History, seqno_of}
+use Rattle.gl_gov_rules.specs.declared.carried.Answered.{Answered}
+use Rattle.gl_gov_rules.specs.declared.carried.Carried.{Carried}
+use Rattle.gl_gov_rules.specs.History.{History, seqno_of}
 use Rattle.gl_gov_rules.specs.Members.{members, is_removed, is_by, is_ack, is_ack_by, is_signer, is_acked_by, has_acked, member_status, leaf_after_last, leaf_carried, next_leaf}
 use Rattle.gl_gov_rules.specs.Nodes.{nodes, trusts, marks, retirement, is_marked, is_trust_applied, was_trusted, node_status}
 use Rattle.gl_gov_rules.specs.Proposals.{proposal_in_act, proposal_in, proposals, state_settled, first_or_open, proposal_state, is_open_state, is_answer_on, is_ballot, answer_in, answers_of, is_answer, has_answered}

@@ -9,7 +9,8 @@ use Rattle.gl_gov_rules.specs.declared.row.ServiceRow.{ServiceRow}
 use Rattle.gl_gov_rules.specs.History.{History, no_history}
 use Rattle.gl_gov_rules.specs.Changes.{with_request, history}
 use Rattle.gl_gov_rules.specs.Governed.{is_founding, is_nothing, IsAbove, Follows, IsGoverned}
-use Rattle.gl_gov_rules.specs.GovernedRows.{GovernedRows, history_over}
+use Rattle.gl_gov_rules.specs.declared.row.GovernedRows.{GovernedRows}
+use Rattle.gl_gov_rules.specs.GovernedRows.{history_over}
 use Rattle.gl_gov_rules.specs.Refusals.{refusal}
 use Rattle.gl_gov_rules.specs.Rising.{IsRising}
 use Rattle.gl_gov_rules.specs.Rows.{service_row}
@@ -44,7 +45,7 @@ no_service : service_row no_history ≡ None
 unfolding service_row service_state is_recovered identity
 no_service = refl
 
-some_founded : (rs : List Recorded) (s : ServiceRow) → service_row (history rs) ≡ Some s → is_nothing rs ≡ false
+pub some_founded : (rs : List Recorded) (s : ServiceRow) → service_row (history rs) ≡ Some s → is_nothing rs ≡ false
 some_founded [] s is = absurd (let none = sym is ∙ ap service_row history_of_none ∙ no_service in cc)
 some_founded (r ∷ rs) s is = refl
 

@@ -29,7 +29,8 @@ use Rattle.gl_gov_rules.specs.declared.change.Proposal.{Proposal}
 use Rattle.gl_gov_rules.specs.declared.refusal.MemberStatus.TheVariants as statuses
 use Rattle.gl_gov_rules.specs.declared.row.ServiceRow.{ServiceRow}
 use Rattle.gl_gov_rules.specs.declared.row.NodeRow.{NodeRow}
-use Rattle.gl_gov_rules.specs.History.{History, Answered, last_set}
+use Rattle.gl_gov_rules.specs.declared.carried.Answered.{Answered}
+use Rattle.gl_gov_rules.specs.History.{History, last_set}
 use Rattle.gl_gov_rules.specs.Members.{members, is_removed, has_acked, member_status}
 use Rattle.gl_gov_rules.specs.Nodes.{recorded_node, nodes_recorded, nodes}
 use Rattle.gl_gov_rules.specs.Proposals.{proposals, answers_with}
@@ -37,7 +38,10 @@ use Rattle.gl_gov_rules.specs.Service.{sets_rules, constitution, sets_dealing, d
 use Rattle.gl_gov_rules.specs.Changes.{first_rules, set_member, request_changes, changed_at, changes_of, history}
 use Rattle.gl_gov_rules.specs.Governed.{is_founding, is_nothing, IsAbove, Follows, IsGoverned, IsBoundedProposal}
 use Rattle.gl_gov_rules.specs.Rows.{members_map, nodes_map, constitution_map, dealing_map, service_map, member_write, member_row, member_rows, node_write, node_row, node_rows_from, node_rows, proposal_row, service_write, service_row, dealing_write, share_write, all_rows, rows}
-use Rattle.gl_gov_rules.specs.GovernedRows.{ProposalAt, RuleAt, GovernedRows, no_rows, is_removed_status, is_one_byte, is_node_row, numbered_from, ended_rows, governed_rows}
+use Rattle.gl_gov_rules.specs.declared.row.ProposalAt.{ProposalAt}
+use Rattle.gl_gov_rules.specs.declared.row.RuleAt.{RuleAt}
+use Rattle.gl_gov_rules.specs.declared.row.GovernedRows.{GovernedRows}
+use Rattle.gl_gov_rules.specs.GovernedRows.{no_rows, is_removed_status, is_one_byte, is_node_row, numbered_from, ended_rows, governed_rows}
 use Rattle.gl_gov_rules.proofs.Bounded.{is_bounded}
 use Rattle.gl_gov_rules.proofs.Counting.{each_append}
 use Rattle.gl_gov_rules.proofs.FewMembers.{few_left}

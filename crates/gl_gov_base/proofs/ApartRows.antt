@@ -28,7 +28,8 @@ use Rattle.gl_gov_rules.specs.declared.change.ProposalState.TheVariants as state
 use Rattle.gl_gov_rules.specs.declared.refusal.Cause.{Cause}
 use Rattle.gl_gov_rules.specs.declared.row.NodeRow.{NodeRow}
 use Rattle.gl_gov_rules.specs.declared.request_facts.GivenShare.{GivenShare}
-use Rattle.gl_gov_rules.specs.History.{History, Answered, no_history}
+use Rattle.gl_gov_rules.specs.declared.carried.Answered.{Answered}
+use Rattle.gl_gov_rules.specs.History.{History, no_history}
 use Rattle.gl_gov_rules.specs.Members.{members, member_named, has_number}
 use Rattle.gl_gov_rules.specs.Nodes.{nodes}
 use Rattle.gl_gov_rules.specs.Service.{last_clearing, share_in, share_in_act, given_share, given_after, given, shares_given}

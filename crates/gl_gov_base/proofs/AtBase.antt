@@ -13,7 +13,8 @@ use Rattle.gl_gov_rules.specs.Governed.{IsGoverned}
 use Rattle.gl_gov_rules.specs.Refusals.{refusal}
 use Rattle.gl_gov_rules.specs.Rows.{rows, effect_writes}
 use Rattle.gl_gov_rules.specs.Service.{shares_given}
-use Rattle.gl_gov_rules.specs.GovernedRows.{GovernedRows, begin_with, history_over}
+use Rattle.gl_gov_rules.specs.declared.row.GovernedRows.{GovernedRows}
+use Rattle.gl_gov_rules.specs.GovernedRows.{begin_with, history_behind, history_over}
 use Rattle.gl_gov_rules.proofs.Prefixes.{history-more, governed_prefix, governed_next}
 use Rattle.gl_gov_base.specs.Alike.{of_member, Alike}
 use Rattle.gl_gov_base.specs.AtBase.{IsReadOf, IsSettled}
@@ -65,12 +66,12 @@ accepted_after base rs (r ∷ es) high all =
 
 -- one more above the base
 over_more : (g : GovernedRows) (es : List Recorded) (r : Recorded) → history_over (Some g) (es ++ r ∷ []) ≡ with_request (history_over (Some g) es) r
-unfolding history_over
+unfolding history_behind
 over_more g es r = fold-append with_request (begin_with (Some g)) es (r ∷ [])
 
 -- the whole history and that over the base are alike
 pub alike_over : (base : ℕ) (all : List Row) (g : GovernedRows) (rs es : List Recorded) → IsOver base all g rs es → Alike base (history (rs ++ es)) (history_over (Some g) es)
-unfolding history_over
+unfolding history_behind
 alike_over base all g rs es over =
     let first : IsGoverned rs = governed_prefix rs es over.governed in
     subst (λ h. Alike base h (history_over (Some g) es)) (sym (history_parts rs es))

@@ -19,7 +19,7 @@ use Rattle.gl_gov_rules.specs.History.{History}
 use Rattle.gl_gov_rules.specs.Proposals.{proposals}
 use Rattle.gl_gov_rules.specs.Service.{constitution, dealing, shares_given}
 use Rattle.gl_gov_rules.specs.Rows.{constitution_map, member_write, member_rows, node_write, node_rows, proposal_write, proposal_row, proposal_writes, rule_writes_from, rule_writes_of, dealing_write, service_write, service_row, share_write, write_of, all_rows}
-use Rattle.gl_gov_rules.specs.GovernedRows.{RuleAt}
+use Rattle.gl_gov_rules.specs.declared.row.RuleAt.{RuleAt}
 use Rattle.gl_gov_rules.proofs.Counting.{each_append}
 use Rattle.gl_gov_base.proofs.DistinctRows.{IsFresh, AreDistinct}
 use Rattle.gl_gov_base.proofs.RowsSpelled.{numbered_rules, rules_at}

@@ -22,7 +22,8 @@ use Rattle.gl_gov_rules.specs.declared.change.Recorded.{Recorded}
 use Rattle.gl_gov_rules.specs.declared.change.RecordedNode.{RecordedNode}
 use Rattle.gl_gov_rules.specs.declared.change.Changed.{Changed}
 use Rattle.gl_gov_rules.specs.declared.change.Proposal.{Proposal}
-use Rattle.gl_gov_rules.specs.History.{History, Answered, nothing, seqno_of}
+use Rattle.gl_gov_rules.specs.declared.carried.Answered.{Answered}
+use Rattle.gl_gov_rules.specs.History.{History, nothing, seqno_of}
 use Rattle.gl_gov_rules.specs.Signatures.{leaf_in, leaf_of}
 use Rattle.gl_gov_rules.specs.Members.{members, is_by, leaf_after, leaf_after_last, next_leaf}
 use Rattle.gl_gov_rules.specs.Nodes.{nodes, retires, retirement}
@@ -31,7 +32,7 @@ use Rattle.gl_gov_rules.specs.Proposals.{proposals, proposal_in, proposal_in_act
 use Rattle.gl_gov_rules.specs.Changes.{history}
 use Rattle.gl_gov_rules.specs.Governed.{IsAbove, IsGoverned, IsBoundedProposal}
 use Rattle.gl_gov_rules.specs.Rows.{member_row, member_rows, node_row, node_rows_from, node_rows, vote_of, votes, proposal_row, service_row_of, service_row}
-use Rattle.gl_gov_rules.specs.GovernedRows.{ProposalAt}
+use Rattle.gl_gov_rules.specs.declared.row.ProposalAt.{ProposalAt}
 use Rattle.gl_gov_rules.proofs.Bounded.{is_bounded}
 use Rattle.gl_gov_rules.proofs.Counting.{all_find, all_reverse}
 use Rattle.gl_gov_rules.proofs.FewNodes.{are_few_nodes}
@@ -175,7 +176,7 @@ proposer_of s (requests.Member m) fits = by m.act
     by (acts.Withdraw id) = tt
     by (acts.Share value) = tt
 
-each_passes : {A : Type 0} (p : A → Bool) (xs : List A) → list_all p xs ≡ true → AllByRecursion (λ x. p x ≡ true) xs
+pub each_passes : {A : Type 0} (p : A → Bool) (xs : List A) → list_all p xs ≡ true → AllByRecursion (λ x. p x ≡ true) xs
 each_passes p [] all = tt
 each_passes p (x ∷ xs) all = let parts = and_parts (p x) (list_all p xs) all in (parts.0, each_passes p xs parts.1)
 

@@ -19,7 +19,7 @@ made f None = None
 made f (Some x) = f x
 
 module _ {A B : Type 0} (f : A → Option B) (p : B → Bool) where
-  count_made : (xs : List A) → count_by p (filter_map f xs) ≡ count_by (λ x. passes p (f x)) xs
+  pub count_made : (xs : List A) → count_by p (filter_map f xs) ≡ count_by (λ x. passes p (f x)) xs
   count_made [] = refl
   count_made (x ∷ xs) = by (f x) ∙ ap (λ n. one_if (passes p (f x)) + n) (count_made xs) ∙ sym (count-cons (λ x. passes p (f x)) x xs)
     where

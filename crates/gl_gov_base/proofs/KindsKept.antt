@@ -22,7 +22,8 @@ use Rattle.gl_gov_rules.specs.declared.refusal.NodeStatus.TheVariants as node_st
 use Rattle.gl_gov_rules.specs.declared.row.MemberRow.{MemberRow}
 use Rattle.gl_gov_rules.specs.declared.row.NodeRow.{NodeRow}
 use Rattle.gl_gov_rules.specs.Rows.{service_map, service_key, members_map, member_byte, nodes_map, node_byte, proposals_map, constitution_map, dealing_map, dealing_key, shares_map}
-use Rattle.gl_gov_rules.specs.GovernedRows.{RuleAt, one_of_at, is_one_byte, first_byte, member_row_at, node_row_at, proposal_row_at}
+use Rattle.gl_gov_rules.specs.declared.row.RuleAt.{RuleAt}
+use Rattle.gl_gov_rules.specs.GovernedRows.{one_of_at, is_one_byte, first_byte, member_row_at, node_row_at, proposal_row_at}
 use Rattle.gl_gov_base.specs.SameBy.{SameBy}
 use Rattle.gl_gov_base.specs.Alike.{of_member}
 use Rattle.gl_gov_base.specs.AtBase.{of_number, is_proposal_at}
@@ -54,7 +55,7 @@ module _ {L Y : Type 0} (own : List ℕ) (ok : List ℕ → Bool) (read : List �
       by true false ea eb = and_none (is_row (row_of l) w)
       by false b ea eb = and_none (is_row (row_of l) w)
 
-  kept_alone : (l : L) (w : Write) → passes (had l) (kind_in own ok read w) ≡ (is_row (row_of l) w && is_some (kind_in own ok read w))
+  pub kept_alone : (l : L) (w : Write) → passes (had l) (kind_in own ok read w) ≡ (is_row (row_of l) w && is_some (kind_in own ok read w))
   kept_alone l w = plain (kind_in own ok read w) ∙ kept_key l w (λ y. true) ∙ ap (λ b. is_row (row_of l) w && b) (some (kind_in own ok read w))
     where
       and_yes : (b : Bool) → b ≡ (b && true)
@@ -127,7 +128,7 @@ module _ (k id : List ℕ) (p : NodeRow → Bool) where
   abbrev node_made : ℕ → NodeStatus → NewNode → ℕ × Unread → Result (NodeRow × Unread) CodeFault
   node_made order s n x = Ok (record { id = k; order = order; status = s; key = n.key; endorsement = n.endorsement; removal = x.0 }, x.1)
 
-  id_kept : (v : List ℕ) → KeepsId (whole (node_row_at k) v)
+  pub id_kept : (v : List ℕ) → KeepsId (whole (node_row_at k) v)
   unfolding node_row_at
   id_kept v = order_then (field (number_at 2 (record { at = 0; bytes = v })))
     where

@@ -23,7 +23,8 @@ use Rattle.gl_gov_rules.specs.declared.change.Proposal.{Proposal}
 use Rattle.gl_gov_rules.specs.declared.change.ProposalState.{ProposalState}
 use Rattle.gl_gov_rules.specs.declared.change.ProposalState.TheVariants as states
 use Rattle.gl_gov_rules.specs.declared.refusal.Cause.{Cause}
-use Rattle.gl_gov_rules.specs.History.{History, Answered}
+use Rattle.gl_gov_rules.specs.declared.carried.Answered.{Answered}
+use Rattle.gl_gov_rules.specs.History.{History}
 use Rattle.gl_gov_rules.specs.Proposals.{proposal, is_open_state, answers_with}
 use Rattle.gl_gov_rules.specs.Tally.{tally, is_accepted, is_rejected}
 use Rattle.gl_gov_rules.specs.Actions.{cause_against, with_applied, first_bad_action, at_index}

@@ -37,3 +37,11 @@ pub mod RowsReadable
 pub mod AlwaysRead
 pub mod AtBase
 pub mod AcceptedOver
+pub mod RequestsOver
+pub mod ReadRanges
+pub mod BoundsKept
+pub mod BoundsAtBase
+pub mod BoundsOver
+pub mod ServiceOver
+pub mod NodesOver
+pub mod WholeOver

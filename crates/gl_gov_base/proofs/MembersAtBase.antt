@@ -23,7 +23,8 @@ use Rattle.gl_gov_rules.specs.Service.{constitution, dealing, identity, is_recov
 use Rattle.gl_gov_rules.specs.Rows.{member_row, member_rows, service_row, service_row_of}
 use Rattle.gl_gov_base.specs.SameBy.{SameBy}
 use Rattle.gl_gov_base.specs.Alike.{of_member, SameShares, shares_since}
-use Rattle.gl_gov_rules.specs.GovernedRows.{GovernedRows, is_removed_status, is_active_status, member_of_row, signer_carried}
+use Rattle.gl_gov_rules.specs.declared.row.GovernedRows.{GovernedRows}
+use Rattle.gl_gov_rules.specs.GovernedRows.{is_removed_status, is_active_status, member_of_row, signer_carried}
 use Rattle.gl_gov_base.specs.AtBase.{of_number, IsReadOf, IsSettled}
 use Rattle.gl_gov_base.proofs.SameLists.{map_twice, map_same, find-map, any-map, same_any, same_map, same_refl, same_sym}
 use Rattle.gl_gov_base.proofs.MoreRequests.{or_none}

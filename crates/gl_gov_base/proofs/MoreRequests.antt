@@ -24,7 +24,8 @@ use Rattle.gl_gov_rules.specs.declared.request_facts.Mark.{Mark}
 use Rattle.gl_gov_rules.specs.declared.change.Recorded.{Recorded}
 use Rattle.gl_gov_rules.specs.declared.change.RecordedNode.{RecordedNode}
 use Rattle.gl_gov_rules.specs.declared.change.Proposal.{Proposal}
-use Rattle.gl_gov_rules.specs.History.{History, Answered}
+use Rattle.gl_gov_rules.specs.declared.carried.Answered.{Answered}
+use Rattle.gl_gov_rules.specs.History.{History}
 use Rattle.gl_gov_rules.specs.Members.{members, is_removed, is_by, is_ack_by, is_acked_by, has_acked, leaf_after, leaf_after_last, leaf_carried, is_signer, next_leaf}
 use Rattle.gl_gov_rules.specs.Nodes.{nodes, nodes_recorded, has_id, node, marks, retirement, is_marked, first_mark, mark, is_trust_applied, was_trusted}
 use Rattle.gl_gov_rules.specs.Service.{constitution, dealing, identity, is_recovered, service_state, last_clearing, share_in, share_in_act, given, shares_given}

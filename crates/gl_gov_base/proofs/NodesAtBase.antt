@@ -23,7 +23,8 @@ use Rattle.gl_gov_rules.specs.Nodes.{nodes, has_id, node, retires, trusts, retir
 use Rattle.gl_gov_rules.specs.Changes.{changed_at}
 use Rattle.gl_gov_rules.specs.Rows.{node_row, node_rows_from, node_rows}
 use Rattle.gl_gov_base.specs.Alike.{removed_at, node_view, first_of_list, is_up_to}
-use Rattle.gl_gov_rules.specs.GovernedRows.{GovernedRows, carried_node, mark_carried, is_marked_status, node_removed_by, changes_at_base, changes_of_rows, begin_with}
+use Rattle.gl_gov_rules.specs.declared.row.GovernedRows.{GovernedRows}
+use Rattle.gl_gov_rules.specs.GovernedRows.{carried_node, mark_carried, is_marked_status, node_removed_by, changes_at_base, changes_of_rows, begin_with}
 use Rattle.gl_gov_base.specs.AtBase.{IsReadOf, IsOneNode, IsSettled}
 use Rattle.gl_gov_base.proofs.MoreChanges.{kept-map}
 use Rattle.gl_gov_base.proofs.MoreRequests.{or_none, some_mark}

@@ -19,7 +19,9 @@ use Rattle.gl_gov_rules.specs.Proposals.{proposals, proposal, has_proposal_id, d
 use Rattle.gl_gov_rules.specs.Rows.{proposal_row, votes}
 use Rattle.gl_gov_base.specs.SameBy.{SameBy}
 use Rattle.gl_gov_base.specs.Alike.{ProposalView, proposal_view, first_of_list, settled_by, is_view_of}
-use Rattle.gl_gov_rules.specs.GovernedRows.{ProposalAt, GovernedRows, carried_proposal, answers_carried, settled_row}
+use Rattle.gl_gov_rules.specs.declared.row.ProposalAt.{ProposalAt}
+use Rattle.gl_gov_rules.specs.declared.row.GovernedRows.{GovernedRows}
+use Rattle.gl_gov_rules.specs.GovernedRows.{carried_proposal, answers_carried, settled_row}
 use Rattle.gl_gov_base.specs.AtBase.{is_proposal_at, proposal_at, IsReadOf, IsOneProposal, IsSettled}
 use Rattle.gl_gov_base.proofs.SameLists.{map_twice, find-map, any-map, same_any, same_map, same_sym}
 use Rattle.gl_gov_base.proofs.SameReadings.{state_viewed, state_in}

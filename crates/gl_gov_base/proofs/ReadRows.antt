@@ -19,7 +19,9 @@ use Rattle.gl_gov_rules.specs.Service.{constitution, dealing, shares_given}
 use Rattle.gl_gov_rules.specs.Changes.{history}
 use Rattle.gl_gov_rules.specs.Governed.{IsAbove, IsGoverned}
 use Rattle.gl_gov_rules.specs.Rows.{service_map, members_map, nodes_map, proposals_map, constitution_map, dealing_map, shares_map, node_rows, service_row, all_rows, rows}
-use Rattle.gl_gov_rules.specs.GovernedRows.{RuleAt, GovernedRows, no_rows, is_one_byte, governed_rows}
+use Rattle.gl_gov_rules.specs.declared.row.RuleAt.{RuleAt}
+use Rattle.gl_gov_rules.specs.declared.row.GovernedRows.{GovernedRows}
+use Rattle.gl_gov_rules.specs.GovernedRows.{no_rows, is_one_byte, governed_rows}
 use Rattle.gl_gov_base.specs.SameBy.{SameBy}
 use Rattle.gl_gov_base.specs.Alike.{of_member, AreByteShares, SameShares}
 use Rattle.gl_gov_base.specs.AtBase.{of_number, is_proposal_at, IsReadOf}

@@ -19,7 +19,10 @@ use Rattle.gl_gov_rules.specs.History.{last_set}
 use Rattle.gl_gov_rules.specs.Proposals.{is_open_state}
 use Rattle.gl_gov_rules.specs.Changes.{changed_at, set_member}
 use Rattle.gl_gov_base.specs.Alike.{first_of_list}
-use Rattle.gl_gov_rules.specs.GovernedRows.{ProposalAt, RuleAt, GovernedRows, recovered_if, founded_by, dealt_by, is_removed_status, member_of_row, member_removed_by, settled_row, node_removed_by, changes_at_base, changes_of_rows}
+use Rattle.gl_gov_rules.specs.declared.row.ProposalAt.{ProposalAt}
+use Rattle.gl_gov_rules.specs.declared.row.RuleAt.{RuleAt}
+use Rattle.gl_gov_rules.specs.declared.row.GovernedRows.{GovernedRows}
+use Rattle.gl_gov_rules.specs.GovernedRows.{recovered_if, founded_by, dealt_by, is_removed_status, member_of_row, member_removed_by, settled_row, node_removed_by, changes_at_base, changes_of_rows}
 use Rattle.gl_gov_base.proofs.MoreChanges.{kept-map}
 
 -- ---- readings as what is kept of a list

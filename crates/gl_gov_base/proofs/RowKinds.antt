@@ -14,7 +14,9 @@ use Rattle.gl_gov_rules.specs.declared.row.MemberRow.{MemberRow}
 use Rattle.gl_gov_rules.specs.declared.row.NodeRow.{NodeRow}
 use Rattle.gl_gov_rules.specs.declared.row.ProposalRow.{ProposalRow}
 use Rattle.gl_gov_rules.specs.Rows.{service_map, service_key, members_map, nodes_map, proposals_map, constitution_map, dealing_map, dealing_key, shares_map}
-use Rattle.gl_gov_rules.specs.GovernedRows.{ProposalAt, RuleAt, service_row_at, member_row_at, node_row_at, proposal_row_at, first_byte, is_one_byte}
+use Rattle.gl_gov_rules.specs.declared.row.ProposalAt.{ProposalAt}
+use Rattle.gl_gov_rules.specs.declared.row.RuleAt.{RuleAt}
+use Rattle.gl_gov_rules.specs.GovernedRows.{service_row_at, member_row_at, node_row_at, proposal_row_at, first_byte, is_one_byte}
 
 abbrev pub valued : {Y : Type 0} → (List ℕ → Option Y) → Option (List ℕ) → Option Y
 valued read None = None

@@ -19,7 +19,9 @@ use Rattle.gl_gov_rules.specs.Members.{members, member_named, removes_member, is
 use Rattle.gl_gov_rules.specs.Service.{constitution, sets_rules, dealing, sets_dealing, identity, sets_identity, is_recovery, is_recovered, sets_state, service_state, clears_shares, last_clearing}
 use Rattle.gl_gov_rules.specs.Changes.{changed_at, set_member}
 use Rattle.gl_gov_base.specs.Alike.{first_of_list}
-use Rattle.gl_gov_rules.specs.GovernedRows.{RuleAt, GovernedRows, recovered_if, founded_by, dealt_by, is_removed_status, member_of_row, member_removed_by, changes_of_rows, begin_with}
+use Rattle.gl_gov_rules.specs.declared.row.RuleAt.{RuleAt}
+use Rattle.gl_gov_rules.specs.declared.row.GovernedRows.{GovernedRows}
+use Rattle.gl_gov_rules.specs.GovernedRows.{recovered_if, founded_by, dealt_by, is_removed_status, member_of_row, member_removed_by, changes_of_rows, begin_with}
 use Rattle.gl_gov_base.proofs.MoreChanges.{kept-map}
 use Rattle.gl_gov_base.proofs.RowChanges.{last_item, last_set_kept, where_it, any_kept, none_or, kept_kept, on_recovered, on_founded, on_dealt, on_members, on_removed, on_settled, on_nodes, kept_parts}
 

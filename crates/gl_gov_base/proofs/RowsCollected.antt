@@ -15,7 +15,8 @@ use Rattle.gl_gov_rules.specs.declared.row.MemberRow.{MemberRow}
 use Rattle.gl_gov_rules.specs.declared.row.NodeRow.{NodeRow}
 use Rattle.gl_gov_rules.specs.declared.row.ProposalRow.{ProposalRow}
 use Rattle.gl_gov_rules.specs.Rows.{service_map, service_key, members_map, nodes_map, proposals_map, constitution_map, dealing_map, dealing_key, shares_map}
-use Rattle.gl_gov_rules.specs.GovernedRows.{GovernedRows, service_row_at, member_row_at, node_row_at, proposal_row_at, value_read, put_where, first_byte, is_one_byte, has_room, is_node_row, is_proposal_row, any_value, with_row, numbered_from, ended_rows, or_index, rows_from}
+use Rattle.gl_gov_rules.specs.declared.row.GovernedRows.{GovernedRows}
+use Rattle.gl_gov_rules.specs.GovernedRows.{service_row_at, member_row_at, node_row_at, proposal_row_at, value_read, put_where, first_byte, is_one_byte, has_room, is_node_row, is_proposal_row, any_value, with_row, numbered_from, ended_rows, or_index, rows_from}
 use Rattle.gl_gov_base.proofs.RowChanges.{last_item}
 use Rattle.gl_gov_base.proofs.RowKinds.{kind_in, is_service_key, is_dealing_key, is_rule_key, any_key, proposal_with, rule_with, share_with, read_service, read_member, read_node, read_proposal, read_rule, read_dealing, read_share, service_of, member_of, node_of, proposal_of, rule_of, dealing_of, share_of}
 

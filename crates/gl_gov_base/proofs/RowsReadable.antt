@@ -23,7 +23,9 @@ use Rattle.gl_gov_rules.specs.declared.row.ServiceRow.{ServiceRow}
 use Rattle.gl_gov_rules.specs.declared.row.MemberRow.{MemberRow}
 use Rattle.gl_gov_rules.specs.declared.row.NodeRow.{NodeRow}
 use Rattle.gl_gov_rules.specs.Rows.{service_map, service_key, members_map, nodes_map, proposals_map, constitution_map, dealing_map, dealing_key, shares_map, member_write, node_write, proposal_write, dealing_write, service_write, share_write}
-use Rattle.gl_gov_rules.specs.GovernedRows.{ProposalAt, GovernedRows, is_removed_status, put_where, is_one_byte, has_room, is_node_row, is_proposal_row, any_value, with_row, numbered_from, ended_rows, or_index, rows_from}
+use Rattle.gl_gov_rules.specs.declared.row.ProposalAt.{ProposalAt}
+use Rattle.gl_gov_rules.specs.declared.row.GovernedRows.{GovernedRows}
+use Rattle.gl_gov_rules.specs.GovernedRows.{is_removed_status, put_where, is_one_byte, has_room, is_node_row, is_proposal_row, any_value, with_row, numbered_from, ended_rows, or_index, rows_from}
 use Rattle.gl_gov_rules.proofs.Counting.{one_if, count-cons, count-append}
 use Rattle.gl_gov_base.proofs.KnownFacts.{clash}
 use Rattle.gl_gov_base.proofs.RowsRead.{service_bytes, member_bytes_of, node_bytes_of, proposal_bytes_of, IsProposalRow}

@@ -28,7 +28,9 @@ use Rattle.gl_gov_rules.specs.History.{History}
 use Rattle.gl_gov_rules.specs.Proposals.{proposals}
 use Rattle.gl_gov_rules.specs.Service.{constitution, dealing, shares_given}
 use Rattle.gl_gov_rules.specs.Rows.{constitution_map, member_write, member_rows, node_write, node_rows, proposal_write, proposal_row, proposal_writes, rule_writes_from, rule_writes_of, dealing_write, service_write, service_row, share_write, write_of, all_rows}
-use Rattle.gl_gov_rules.specs.GovernedRows.{ProposalAt, RuleAt, service_row_at, member_row_at, node_row_at, proposal_row_at}
+use Rattle.gl_gov_rules.specs.declared.row.ProposalAt.{ProposalAt}
+use Rattle.gl_gov_rules.specs.declared.row.RuleAt.{RuleAt}
+use Rattle.gl_gov_rules.specs.GovernedRows.{service_row_at, member_row_at, node_row_at, proposal_row_at}
 use Rattle.gl_gov_base.specs.AtBase.{proposal_at}
 use Rattle.gl_gov_base.proofs.MoreChanges.{kept-map}
 use Rattle.gl_gov_base.proofs.RowChanges.{none_each}

@@ -15,7 +15,8 @@ use Rattle.gl_gov_rules.specs.declared.change.Change.TheVariants as changes
 use Rattle.gl_gov_rules.specs.declared.change.ProposalState.TheVariants as states
 use Rattle.gl_gov_rules.specs.declared.change.Recorded.{Recorded}
 use Rattle.gl_gov_rules.specs.declared.change.Proposal.{Proposal}
-use Rattle.gl_gov_rules.specs.History.{History, Answered}
+use Rattle.gl_gov_rules.specs.declared.carried.Answered.{Answered}
+use Rattle.gl_gov_rules.specs.History.{History}
 use Rattle.gl_gov_rules.specs.Members.{members, is_active}
 use Rattle.gl_gov_rules.specs.Proposals.{proposal, answers_with, has_answered}
 use Rattle.gl_gov_rules.specs.Tally.{answer_count, tally, rule_of, is_met, is_out_of_reach, is_accepted, is_rejected}

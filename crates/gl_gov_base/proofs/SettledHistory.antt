@@ -25,7 +25,9 @@ use Rattle.gl_gov_rules.specs.declared.change.Change.{Change}
 use Rattle.gl_gov_rules.specs.declared.change.Change.TheVariants as changes
 use Rattle.gl_gov_rules.specs.declared.change.Changed.{Changed}
 use Rattle.gl_gov_rules.specs.declared.request_facts.GivenShare.{GivenShare}
-use Rattle.gl_gov_rules.specs.History.{History, Carried, Answered, nothing, no_history}
+use Rattle.gl_gov_rules.specs.declared.carried.Carried.{Carried}
+use Rattle.gl_gov_rules.specs.declared.carried.Answered.{Answered}
+use Rattle.gl_gov_rules.specs.History.{History, nothing, no_history}
 use Rattle.gl_gov_rules.specs.Members.{members, has_number, is_removed, is_by, is_ack, is_ack_by, has_acked, leaf_after_last, next_leaf, removes_member}
 use Rattle.gl_gov_rules.specs.Nodes.{nodes, nodes_recorded, has_id, marks, trusts, is_marked, is_trust_applied}
 use Rattle.gl_gov_rules.specs.Service.{share_in, given_share, given_in, given}

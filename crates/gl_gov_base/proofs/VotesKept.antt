@@ -13,7 +13,8 @@ use Rattle.gl_requests.specs.declared.request.GovernanceRequest.{GovernanceReque
 use Rattle.gl_requests.specs.declared.request.GovernanceRequest.TheVariants as requests
 use Rattle.gl_gov_rules.specs.declared.change.Recorded.{Recorded}
 use Rattle.gl_gov_rules.specs.declared.row.Vote.{Vote}
-use Rattle.gl_gov_rules.specs.History.{History, Answered, no_history}
+use Rattle.gl_gov_rules.specs.declared.carried.Answered.{Answered}
+use Rattle.gl_gov_rules.specs.History.{History, no_history}
 use Rattle.gl_gov_rules.specs.Proposals.{same_answer, answer_in, answer_in_act, answers_of, answers_with, is_answer, has_answered, has_ballot}
 use Rattle.gl_gov_rules.specs.Changes.{changes_of, with_request, history}
 use Rattle.gl_gov_rules.specs.Refusals.{refusal}

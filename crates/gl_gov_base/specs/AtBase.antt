@@ -18,7 +18,9 @@ use Rattle.gl_gov_rules.specs.Service.{constitution, dealing, given, shares_give
 use Rattle.gl_gov_rules.specs.Proposals.{proposals, has_proposal_id, answers_of, has_answered, same_answer}
 use Rattle.gl_gov_rules.specs.Rows.{member_rows, node_rows, proposal_row, service_row, votes}
 use Rattle.gl_gov_base.specs.Alike.{SameShares, settled_by}
-use Rattle.gl_gov_rules.specs.GovernedRows.{ProposalAt, RuleAt, GovernedRows}
+use Rattle.gl_gov_rules.specs.declared.row.ProposalAt.{ProposalAt}
+use Rattle.gl_gov_rules.specs.declared.row.RuleAt.{RuleAt}
+use Rattle.gl_gov_rules.specs.declared.row.GovernedRows.{GovernedRows}
 
 abbrev pub of_number : ℕ → MemberRow → Bool
 of_number n m = nat_eq m.number n

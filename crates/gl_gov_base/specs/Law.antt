@@ -15,7 +15,8 @@ use Rattle.gl_gov_rules.specs.Refusals.{refusal}
 use Rattle.gl_gov_rules.specs.Rising.{IsRising}
 use Rattle.gl_gov_rules.specs.Rows.{rows}
 use Rattle.gl_gov_rules.specs.Governed.{is_founding, IsAbove, IsGoverned}
-use Rattle.gl_gov_rules.specs.GovernedRows.{GovernedRows, governed_rows, history_over}
+use Rattle.gl_gov_rules.specs.declared.row.GovernedRows.{GovernedRows}
+use Rattle.gl_gov_rules.specs.GovernedRows.{governed_rows, history_over}
 
 -- The history of more requests after another history.
 abbrev pub history_after : History → List Recorded → History

@@ -2,3 +2,4 @@ pub mod SameBy
 pub mod Alike
 pub mod Law
 pub mod AtBase
+pub mod GovernedOver

@@ -7,7 +7,8 @@ ghost use Rattle.gl_requests.specs.declared.request.GovernanceRequest.{Governanc
 ghost use Rattle.gl_gov_rules.specs.declared.change.Recorded.{Recorded};
 ghost use Rattle.gl_gov_rules.specs.Changes.{history};
 ghost use Rattle.gl_gov_rules.specs.Governed.{IsGoverned, is_nothing};
-ghost use Rattle.gl_gov_rules.specs.GovernedRows.{GovernedRows, governed_rows, history_over};
+ghost use Rattle.gl_gov_rules.specs.declared.row.GovernedRows.{GovernedRows};
+ghost use Rattle.gl_gov_rules.specs.GovernedRows.{governed_rows, history_over};
 ghost use Rattle.gl_gov_rules.specs.Nodes.{mark, trusted};
 ghost use Rattle.gl_gov_rules.specs.ProposalStatus.{proposal_status};
 ghost use Rattle.gl_gov_rules.specs.Refusals.{refusal};

@@ -12,11 +12,12 @@ use Rattle.gl_gov_rules.proofs.Ranges.{are_proposals, rules_in_range, dealing_in
 use Rattle.gl_gov_rules.proofs.FewNodes.{are_few_nodes}
 use Rattle.gl_gov_rules.proofs.SmallProposals.{IsSmall, are_small}
 
-both : (ps : List Proposal) → are_proposals ps ≡ true → AllByRecursion IsSmall ps → AllByRecursion IsBoundedProposal ps
-both [] fit small = tt
-both (p ∷ ps) fit small =
+-- proposals whose actions are in their ranges and have few bytes
+pub bounded_proposals : (ps : List Proposal) → are_proposals ps ≡ true → AllByRecursion IsSmall ps → AllByRecursion IsBoundedProposal ps
+bounded_proposals [] fit small = tt
+bounded_proposals (p ∷ ps) fit small =
     let parts = and_parts (are_actions p.actions) (are_proposals ps) fit in
-    (record { fits = parts.0; small = small.0 }, both ps parts.1 small.1)
+    (record { fits = parts.0; small = small.0 }, bounded_proposals ps parts.1 small.1)
 
 pub is_bounded : (rs : List Recorded) → IsGoverned rs → IsBounded (history rs)
 is_bounded rs all =
@@ -28,5 +29,5 @@ is_bounded rs all =
       dealt = dealing_in_range (history rs) changes;
       few_nodes = omega (arith, nodes.0);
       endorsements = nodes.1;
-      proposed = both (proposals (history rs)) range.0 (are_small rs all);
+      proposed = bounded_proposals (proposals (history rs)) range.0 (are_small rs all);
     }

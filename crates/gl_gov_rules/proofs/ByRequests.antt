@@ -1,5 +1,5 @@
 -- What requests tell, where there is one more, and where they are cut back to those up to a seqno.
-use Rattle.std.proofs.Common.{◌≡◌, ℕ, zero, suc, ◌<◌, ◌≤◌, nat_le, Bool, true, false, cond, Option, None, Some, List, [], ◌∷◌, ◌++◌, length, take, drop, is_some, take-append-drop, filter, get_or, refl, sym, ◌∙◌, ap, arith, subst, append-nil}
+use Rattle.std.proofs.Common.{◌≡◌, ℕ, zero, suc, ◌<◌, ◌≤◌, nat_le, Bool, true, false, cond, Option, None, Some, List, [], ◌∷◌, ◌++◌, length, take, drop, is_some, take-append-drop, filter, get_or, refl, sym, ◌∙◌, ap, arith, subst, append-nil, append_assoc, le-leb}
 use Rattle.std.specs.List.{flat_map, filter_map, cons_option, count_by, AllByRecursion}
 use Rattle.std.specs.List.Sorted.{IsPartitionedBy}
 use Rattle.std.specs.Option.{option_to_list}
@@ -27,6 +27,15 @@ one_more {B = B} f xs x ys zs before put =
 pub one_more_flat : {A B : Type 0} (f : A → List B) (xs : List A) (x : A) (ys zs : List B) → ys ≡ flat_map f xs → zs ≡ ys ++ f x → zs ≡ flat_map f (xs ++ x ∷ [])
 one_more_flat f xs x ys zs before put =
     put ∙ ap (λ us. us ++ f x) before ∙ ap (λ us. flat_map f xs ++ us) (sym (append-nil (f x))) ∙ sym (flat_map-append f xs (x ∷ []))
+
+-- so it is where something stands before all that is told
+pub one_more_after : {A B : Type 0} (ks : List B) (f : A → Option B) (xs : List A) (x : A) (ys zs : List B) → ys ≡ ks ++ filter_map f xs → zs ≡ ys ++ option_to_list (f x) → zs ≡ ks ++ filter_map f (xs ++ x ∷ [])
+one_more_after ks f xs x ys zs before put =
+    put ∙ ap (λ us. us ++ option_to_list (f x)) before ∙ append_assoc ks (filter_map f xs) (option_to_list (f x)) ∙ ap (λ us. ks ++ us) (one_more f xs x (filter_map f xs) _ refl refl)
+
+pub one_more_flat_after : {A B : Type 0} (ks : List B) (f : A → List B) (xs : List A) (x : A) (ys zs : List B) → ys ≡ ks ++ flat_map f xs → zs ≡ ys ++ f x → zs ≡ ks ++ flat_map f (xs ++ x ∷ [])
+one_more_flat_after ks f xs x ys zs before put =
+    put ∙ ap (λ us. us ++ f x) before ∙ append_assoc ks (flat_map f xs) (f x) ∙ ap (λ us. ks ++ us) (one_more_flat f xs x (flat_map f xs) _ refl refl)
 
 pub all_more : {A B : Type 0} (f : A → Option B) (xs us : List A) (ys zs vs : List B) → ys ≡ filter_map f xs → zs ≡ filter_map f us → vs ≡ ys ++ zs → vs ≡ filter_map f (xs ++ us)
 all_more f xs us ys zs vs before here put = rw (put, before, here) (sym (filter_map-append f xs us))
@@ -83,6 +92,22 @@ module _ {Y : Type 0} (seq : Y → ℕ) where
   parted to (y ∷ ys) rise (suc i) zero d le lt e = absurd (omega arith)
   parted to (y ∷ ys) rise (suc i) (suc j) d le lt e = parted to ys rise.1 i j d (omega arith) (omega arith) e
 
+  -- all stand up to this seqno
+  abbrev pub StandTo : ℕ → List Y → Type 0
+  StandTo to ks = AllByRecursion (λ (y : Y). seq y ≤ to) ks
+
+  parted_after : (to : ℕ) (ks ys : List Y) → StandTo to ks →
+      ((i j : ℕ) (d : Y) → i ≤ j → j < length ys → nat_le (seq (get_or ys j d)) to ≡ true → nat_le (seq (get_or ys i d)) to ≡ true) →
+      (i j : ℕ) (d : Y) → i ≤ j → j < length (ks ++ ys) → nat_le (seq (get_or (ks ++ ys) j d)) to ≡ true → nat_le (seq (get_or (ks ++ ys) i d)) to ≡ true
+  parted_after to [] ys low rest i j d le lt e = rest i j d le lt e
+  parted_after to (k ∷ ks) ys low rest zero j d le lt e = le-leb (seq k) to low.0
+  parted_after to (k ∷ ks) ys low rest (suc i) zero d le lt e = absurd (omega arith)
+  parted_after to (k ∷ ks) ys low rest (suc i) (suc j) d le lt e = parted_after to ks ys low.1 rest i j d (omega arith) (omega arith) e
+
+  stay_all : (to : ℕ) (ks : List Y) → StandTo to ks → filter (λ (y : Y). nat_le (seq y) to) ks ≡ ks
+  stay_all to [] low = refl
+  stay_all to (k ∷ ks) low = let here : nat_le (seq k) to ≡ true = le-leb (seq k) to low.0 in rw here (ap (λ us. k ∷ us) (stay_all to ks low.1))
+
   stays : (to q : ℕ) (ys : List Y) → nat_le q to ≡ true → StandAt q ys → filter (λ (y : Y). nat_le (seq y) to) ys ≡ ys
   stays to q [] e at = refl
   stays to q (y ∷ ys) e at = let here : nat_le (seq y) to ≡ true = ap (λ n. nat_le n to) at.0 ∙ e in rw here (ap (λ us. y ∷ us) (stays to q ys e at.1))
@@ -114,12 +139,13 @@ module _ {Y : Type 0} (seq : Y → ℕ) where
     filtered to [] = refl
     filtered to (r ∷ rs) = filtered_step to r rs (nat_le r.seqno to) refl (filtered to rs)
 
-    -- what stands up to a seqno is what the requests up to it tell
-    pub cut_flat : (to : ℕ) (rs : List Recorded) (ys after : List Y) → IsRising rs → ys ≡ flat_map f rs →
-        (IsPartitionedBy (λ (y : Y). nat_le (seq y) to) ys → after ≡ filter (λ (y : Y). nat_le (seq y) to) ys) → after ≡ flat_map f (up_to to rs)
-    cut_flat to rs ys after rising are cut =
-        cut (subst (λ (us : List Y). IsPartitionedBy (λ (y : Y). nat_le (seq y) to) us) (sym are) (parted to (flat_map f rs) (rises rs rising)))
-        ∙ ap (filter (λ (y : Y). nat_le (seq y) to)) are ∙ filtered to rs
+    -- what stands up to a seqno is what stands before all of it and what the requests up to it tell
+    pub cut_flat : (to : ℕ) (ks : List Y) (rs : List Recorded) (ys after : List Y) → StandTo to ks → IsRising rs → ys ≡ ks ++ flat_map f rs →
+        (IsPartitionedBy (λ (y : Y). nat_le (seq y) to) ys → after ≡ filter (λ (y : Y). nat_le (seq y) to) ys) → after ≡ ks ++ flat_map f (up_to to rs)
+    cut_flat to ks rs ys after low rising are cut =
+        cut (subst (λ (us : List Y). IsPartitionedBy (λ (y : Y). nat_le (seq y) to) us) (sym are) (parted_after to ks (flat_map f rs) low (parted to (flat_map f rs) (rises rs rising))))
+        ∙ ap (filter (λ (y : Y). nat_le (seq y) to)) are ∙ filter-append (λ (y : Y). nat_le (seq y) to) ks (flat_map f rs)
+        ∙ ap (λ us. us ++ filter (λ (y : Y). nat_le (seq y) to) (flat_map f rs)) (stay_all to ks low) ∙ ap (λ us. ks ++ us) (filtered to rs)
 
   as_flat : (f : Recorded → Option Y) (rs : List Recorded) → filter_map f rs ≡ flat_map (λ r. option_to_list (f r)) rs
   as_flat f [] = refl
@@ -129,9 +155,10 @@ module _ {Y : Type 0} (seq : Y → ℕ) where
       by None rest = rest
       by (Some y) rest = ap (λ us. y ∷ us) rest
 
-  pub cut_map : (f : Recorded → Option Y) → ((r : Recorded) → StandAt r.seqno (option_to_list (f r))) → (to : ℕ) (rs : List Recorded) (ys after : List Y) → IsRising rs → ys ≡ filter_map f rs →
-      (IsPartitionedBy (λ (y : Y). nat_le (seq y) to) ys → after ≡ filter (λ (y : Y). nat_le (seq y) to) ys) → after ≡ filter_map f (up_to to rs)
-  cut_map f each to rs ys after rising are cut = cut_flat (λ r. option_to_list (f r)) each to rs ys after rising (are ∙ as_flat f rs) cut ∙ sym (as_flat f (up_to to rs))
+  pub cut_map : (f : Recorded → Option Y) → ((r : Recorded) → StandAt r.seqno (option_to_list (f r))) → (to : ℕ) (ks : List Y) (rs : List Recorded) (ys after : List Y) → StandTo to ks → IsRising rs → ys ≡ ks ++ filter_map f rs →
+      (IsPartitionedBy (λ (y : Y). nat_le (seq y) to) ys → after ≡ filter (λ (y : Y). nat_le (seq y) to) ys) → after ≡ ks ++ filter_map f (up_to to rs)
+  cut_map f each to ks rs ys after low rising are cut =
+      cut_flat (λ r. option_to_list (f r)) each to ks rs ys after low rising (are ∙ ap (λ us. ks ++ us) (as_flat f rs)) cut ∙ ap (λ us. ks ++ us) (sym (as_flat f (up_to to rs)))
 
 -- ---- the requests themselves
 
@@ -142,4 +169,4 @@ themselves (r ∷ rs) = ap (λ us. r ∷ us) (themselves rs)
 pub cut_requests : (to : ℕ) (rs after : List Recorded) → IsRising rs →
     (IsPartitionedBy (λ (r : Recorded). nat_le r.seqno to) rs → after ≡ filter (λ (r : Recorded). nat_le r.seqno to) rs) → after ≡ up_to to rs
 cut_requests to rs after rising cut =
-    cut_flat (λ (r : Recorded). r.seqno) (λ r. r ∷ []) (λ r. (refl, tt)) to rs rs after rising (sym (themselves rs)) cut ∙ themselves (up_to to rs)
+    cut_flat (λ (r : Recorded). r.seqno) (λ r. r ∷ []) (λ r. (refl, tt)) to [] rs rs after tt rising (sym (themselves rs)) cut ∙ themselves (up_to to rs)

@@ -7,12 +7,15 @@ use Rattle.std.proofs.lemmas.List.Sums.{length-filter}
 use Rattle.std.proofs.lemmas.Grind.{fold-append}
 use Rattle.gl_gov_rules.specs.declared.change.Recorded.{Recorded}
 use Rattle.gl_gov_rules.specs.declared.change.Changed.{Changed}
-use Rattle.gl_gov_rules.specs.History.{History, no_history, nothing}
-use Rattle.gl_gov_rules.specs.Changes.{history, with_request, changed_at, changes_of}
+use Rattle.gl_gov_rules.specs.declared.row.GovernedRows.{GovernedRows}
+use Rattle.gl_gov_rules.specs.History.{Carried, History}
+use Rattle.gl_gov_rules.specs.Changes.{with_request, changed_at, changes_of}
+use Rattle.gl_gov_rules.specs.GovernedRows.{IsBelow, begin_with, history_over}
 use Rattle.gl_gov_rules.specs.Governed.{up_to}
 use Rattle.gl_gov_rules.specs.Rising.{IsRising}
 use Rattle.gl_gov_rules.proofs.Rising.{AreAfter, rest_rises, rest_after}
-use Rattle.gl_gov_rules.proofs.Cutting.{changes_up_to, cut_to, none_above, history-up_to}
+use Rattle.gl_gov_rules.proofs.Cutting.{changes_up_to, cut_to, none_above}
+use Rattle.gl_gov_rules.proofs.OverBase.{over_fold, over_up_to}
 
 -- ---- what passes a test, where all of it stands first
 
@@ -71,37 +74,39 @@ changes_onto h (r ∷ rs) =
     changes_onto (with_request h r) rs ∙ ap (λ xs. xs ++ changes_after (with_request h r) rs) (changes_with h r)
     ∙ append_assoc h.changes (map (changed_at r.seqno) (changes_of h r)) (changes_after (with_request h r) rs)
 
-history_split : (us rs : List Recorded) → (history (us ++ rs)).changes ≡ (history us).changes ++ changes_after (history us) rs
-unfolding history
-history_split us rs = ap (λ (h : History). h.changes) (fold-append with_request no_history us rs) ∙ changes_onto (history us) rs
+over_split : (base : Option GovernedRows) (us rs : List Recorded) → (history_over base (us ++ rs)).changes ≡ (history_over base us).changes ++ changes_after (history_over base us) rs
+over_split base us rs =
+    ap (λ (h : History). h.changes)
+    (over_fold base (us ++ rs) ∙ fold-append with_request (begin_with base) us rs ∙ ap (λ (h : History). fold with_request h rs) (sym (over_fold base us)))
+    ∙ changes_onto (history_over base us) rs
 
-pub changes_left : (p : ℕ) (h : History) → IsRising h.requests → h ≡ history h.requests →
+pub changes_left : (p : ℕ) (base : Option GovernedRows) (h : History) → IsRising h.requests → h ≡ history_over base h.requests → IsBelow base p →
     take (count_by (λ (c : Changed). nat_le c.seqno p) h.changes) h.changes ≡ changes_up_to p h.changes
-changes_left p h rising whole =
+changes_left p base h rising whole low =
     let us : List Recorded = up_to p h.requests in
     let rs : List Recorded = requests_above p h.requests in
-    let same : (history us).changes ≡ changes_up_to p h.changes =
-    ap (λ (x : History). x.changes) (history-up_to p h.requests rising) ∙ sym (ap (λ (x : History). changes_up_to p x.changes) whole) in
-    prefix (λ (c : Changed). nat_le c.seqno p) h.changes (changes_after (history us) rs)
-    (ap (λ (x : History). x.changes) (whole ∙ ap history (requests_split p h.requests rising)) ∙ history_split us rs
-    ∙ ap (λ xs. xs ++ changes_after (history us) rs) same)
+    let same : (history_over base us).changes ≡ changes_up_to p h.changes =
+    ap (λ (x : History). x.changes) (over_up_to p base h.requests rising low) ∙ sym (ap (λ (x : History). changes_up_to p x.changes) whole) in
+    prefix (λ (c : Changed). nat_le c.seqno p) h.changes (changes_after (history_over base us) rs)
+    (ap (λ (x : History). x.changes) (whole ∙ ap (history_over base) (requests_split p h.requests rising)) ∙ over_split base us rs
+    ∙ ap (λ xs. xs ++ changes_after (history_over base us) rs) same)
 
 -- ---- the history that is left
 
-record_left : (p : ℕ) (h : History) → IsRising h.requests → h ≡ history h.requests →
+record_left : (p : ℕ) (base : Option GovernedRows) (h : History) → IsRising h.requests → h ≡ history_over base h.requests → IsBelow base p →
     record { carried = h.carried; requests = take (count_by (λ (r : Recorded). nat_le r.seqno p) h.requests) h.requests; changes = take (count_by (λ (c : Changed). nat_le c.seqno p) h.changes) h.changes }
-    ≡ history (up_to p h.requests)
-record_left p h rising whole =
-    rw (requests_left p h.requests rising, changes_left p h rising whole) (ap (cut_to p) whole ∙ sym (history-up_to p h.requests rising))
+    ≡ history_over base (up_to p h.requests)
+record_left p base h rising whole low =
+    rw (requests_left p h.requests rising, changes_left p base h rising whole low) (ap (cut_to p) whole ∙ sym (over_up_to p base h.requests rising low))
 
-pub rising_in : (h : History) (rs : List Recorded) (cs : List Changed) → record { carried = nothing; requests = rs; changes = cs } ≡ h → IsRising h.requests → IsRising rs
-rising_in h rs cs view rising = subst (λ (x : History). IsRising x.requests) (sym view) rising
+pub rising_in : (h : History) (k : Carried) (rs : List Recorded) (cs : List Changed) → record { carried = k; requests = rs; changes = cs } ≡ h → IsRising h.requests → IsRising rs
+rising_in h k rs cs view rising = subst (λ (x : History). IsRising x.requests) (sym view) rising
 
-pub history_left : (p : ℕ) (h : History) (rs after : List Recorded) (cs left : List Changed) → record { carried = nothing; requests = rs; changes = cs } ≡ h →
-    IsRising h.requests → h ≡ history h.requests →
+pub history_left : (p : ℕ) (base : Option GovernedRows) (h : History) (k : Carried) (rs after : List Recorded) (cs left : List Changed) → record { carried = k; requests = rs; changes = cs } ≡ h →
+    IsRising h.requests → h ≡ history_over base h.requests → IsBelow base p →
     after ≡ take (count_by (λ (r : Recorded). nat_le r.seqno p) rs) rs → left ≡ take (count_by (λ (c : Changed). nat_le c.seqno p) cs) cs →
-    record { carried = nothing; requests = after; changes = left } ≡ history (up_to p h.requests)
-history_left p h rs after cs left view rising whole r c =
-    rw (r, c) (subst (λ (x : History). IsRising x.requests → x ≡ history x.requests →
-    record { carried = nothing; requests = take (count_by (λ (r : Recorded). nat_le r.seqno p) rs) rs; changes = take (count_by (λ (c : Changed). nat_le c.seqno p) cs) cs } ≡ history (up_to p x.requests))
-    view (record_left p (record { carried = nothing; requests = rs; changes = cs })) rising whole)
+    record { carried = k; requests = after; changes = left } ≡ history_over base (up_to p h.requests)
+history_left p base h k rs after cs left view rising whole low r c =
+    rw (r, c) (subst (λ (x : History). IsRising x.requests → x ≡ history_over base x.requests →
+    record { carried = k; requests = take (count_by (λ (r : Recorded). nat_le r.seqno p) rs) rs; changes = take (count_by (λ (c : Changed). nat_le c.seqno p) cs) cs } ≡ history_over base (up_to p x.requests))
+    view (λ rise over. record_left p base (record { carried = k; requests = rs; changes = cs }) rise over low) rising whole)

@@ -18,7 +18,7 @@ changes_up_to seqno cs = filter (λ (c : Changed). nat_le c.seqno seqno) cs
 abbrev pub cut_to : ℕ → History → History
 cut_to seqno h = record { carried = h.carried; requests = up_to seqno h.requests; changes = changes_up_to seqno h.changes }
 
-kept_changes : (p q : ℕ) (cs : List Change) → nat_le q p ≡ true → changes_up_to p (map (changed_at q) cs) ≡ map (changed_at q) cs
+pub kept_changes : (p q : ℕ) (cs : List Change) → nat_le q p ≡ true → changes_up_to p (map (changed_at q) cs) ≡ map (changed_at q) cs
 kept_changes p q [] e = refl
 kept_changes p q (c ∷ cs) e = rw e (ap (λ xs. changed_at q c ∷ xs) (kept_changes p q cs e))
 
@@ -80,7 +80,7 @@ cut_step p h r rs false e later same after =
     rw e (ap (fold with_request h) (none_above p r.seqno rs e later)
     ∙ sym same ∙ sym (cut_above p h r e) ∙ sym (all_above p r.seqno (with_request h r) rs e later))
 
-cut_fold : (p : ℕ) (h : History) (rs : List Recorded) → IsRising rs → cut_to p h ≡ h → fold with_request h (up_to p rs) ≡ cut_to p (fold with_request h rs)
+pub cut_fold : (p : ℕ) (h : History) (rs : List Recorded) → IsRising rs → cut_to p h ≡ h → fold with_request h (up_to p rs) ≡ cut_to p (fold with_request h rs)
 cut_fold p h [] rising same = sym same
 cut_fold p h (r ∷ rs) rising same = cut_step p h r rs (nat_le r.seqno p) refl (rest_after r rs rising) same (λ kept. cut_fold p (with_request h r) rs (rest_rises r rs rising) kept)
 

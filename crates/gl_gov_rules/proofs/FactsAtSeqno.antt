@@ -1,5 +1,6 @@
 -- What a request tells stands at its seqno.
-use Rattle.std.proofs.Common.{ℕ, nat_eq, Bool, true, false, cond, Option, None, Some, option_map, List, [], ◌∷◌, map, refl}
+use Rattle.std.proofs.Common.{ℕ, nat_eq, Bool, true, false, cond, Option, None, Some, option_map, List, [], ◌∷◌, map, refl, arith}
+use Rattle.std.specs.List.{filter_map, cons_option}
 use Rattle.std.specs.Option.{option_to_list}
 use Rattle.gl_base.specs.Bytes.{same_bytes}
 use Rattle.gl_shares.specs.declared.share.Share.{Share}
@@ -15,12 +16,13 @@ use Rattle.gl_gov_rules.specs.declared.change.Ballot.{Ballot}
 use Rattle.gl_gov_rules.specs.declared.request_facts.Mark.{Mark}
 use Rattle.gl_gov_rules.specs.declared.request_facts.GivenShare.{GivenShare}
 use Rattle.gl_gov_rules.specs.declared.request_facts.Signed.{Signed}
+use Rattle.gl_gov_rules.specs.History.{Answered}
 use Rattle.gl_gov_rules.specs.Nodes.{recorded_node, nodes_recorded}
 use Rattle.gl_gov_rules.specs.Service.{share_in}
-use Rattle.gl_gov_rules.specs.Proposals.{proposal_in, proposal_in_act, ballot_in, ballot_in_act}
+use Rattle.gl_gov_rules.specs.Proposals.{proposal_in, proposal_in_act, ballot_carried, ballot_in, ballot_in_act}
 use Rattle.gl_gov_rules.specs.RequestFacts.{mark_in, signed_by, signed_in}
 use Rattle.gl_gov_rules.specs.Service.{given_in, given_share}
-use Rattle.gl_gov_rules.proofs.ByRequests.{StandAt}
+use Rattle.gl_gov_rules.proofs.ByRequests.{StandAt, StandTo}
 
 named_at : (q : ℕ) (b : Bool) (ns : List NewNode) → StandAt (λ (n : RecordedNode). n.seqno) q (map (recorded_node q b) ns)
 named_at q b [] = tt
@@ -89,3 +91,13 @@ ballot_at id q (requests.Recover r) = tt
 ballot_at id q (requests.Join x) = tt
 ballot_at id q (requests.Mark other) = tt
 ballot_at id q (requests.Member m) = answer_at id q m.member m.act
+
+-- ballots that are carried stand at the seqno 0
+pub ballots_low : (id : List ℕ) (to : ℕ) (xs : List Answered) → StandTo (λ (x : Ballot). x.seqno) to (filter_map (ballot_carried id) xs)
+ballots_low id to [] = tt
+ballots_low id to (a ∷ xs) = by (same_bytes a.id id) (ballots_low id to xs)
+  where
+    by : (b : Bool) → StandTo (λ (x : Ballot). x.seqno) to (filter_map (ballot_carried id) xs) →
+        StandTo (λ (x : Ballot). x.seqno) to (cons_option (cond b (Some (record { seqno = 0; member = a.member; agrees = a.agrees })) None) (filter_map (ballot_carried id) xs))
+    by true rest = (omega arith, rest)
+    by false rest = rest

@@ -88,7 +88,7 @@ left_acted h given seqno (acts.Share share) few = complete (is_complete h)
     complete false = none_new h.changes [] refl few
 left_acted h given seqno other few = none_new h.changes [] refl few
 
-left_brought : (h : History) (given : List Answered) (seqno : ℕ) (q : GovernanceRequest) → refusal h seqno q ≡ None → (is_founding q ≡ true → left_in h.changes ≡ 0) → left_in h.changes ≤ 64 →
+pub left_brought : (h : History) (given : List Answered) (seqno : ℕ) (q : GovernanceRequest) → refusal h seqno q ≡ None → (is_founding q ≡ true → left_in h.changes ≡ 0) → left_in h.changes ≤ 64 →
     left_in (h.changes ++ map (changed_at seqno) (request_changes h given seqno q)) ≤ 64
 left_brought h given seqno (requests.Genesis g) accepted first few = left_founded h.changes seqno g (founding_passes h seqno g accepted) (first refl)
 left_brought h given seqno (requests.Recover r) accepted first few = none_new h.changes (changed_at seqno (changes.Recovered r.identity) ∷ []) refl few

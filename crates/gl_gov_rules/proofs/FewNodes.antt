@@ -82,14 +82,14 @@ short_ones seqno key (n ∷ ns) all =
     let both = and_parts (is_endorsed key n.key n.endorsement) (list_all (λ (m : NewNode). is_endorsed key m.key m.endorsement) ns) all in
     (endorsed-length key n.key n.endorsement both.0, short_ones seqno key ns both.1)
 
-Fit : History → List RecordedNode → Type 0
+unfoldable pub Fit : History → List RecordedNode → Type 0
 Fit h ns = (length (nodes h) + length ns ≤ 65535) × AllByRecursion IsShort ns
 
 fit_founding : (h : History) (seqno : ℕ) (key : List ℕ) (ns : List NewNode) → (nodes_refusal h ns ≡ None) × (are_endorsed key ns ≡ true) → Fit h (map (recorded_node seqno true) ns)
 unfolding Fit
 fit_founding h seqno key ns passed = (omega (arith, room_for h ns passed.0, length-map ns (recorded_node seqno true)), short_ones seqno key ns passed.1)
 
-fit_recorded : (h : History) (seqno : ℕ) (q : GovernanceRequest) → refusal h seqno q ≡ None → length (nodes h) ≤ 65535 → Fit h (nodes_recorded seqno q)
+pub fit_recorded : (h : History) (seqno : ℕ) (q : GovernanceRequest) → refusal h seqno q ≡ None → length (nodes h) ≤ 65535 → Fit h (nodes_recorded seqno q)
 unfolding Fit
 fit_recorded h seqno (requests.Genesis g) none few = fit_founding h seqno g.identity g.nodes (genesis_passes h seqno g none)
 fit_recorded h seqno (requests.Recover r) none few = fit_founding h seqno r.identity r.nodes (recovery_passes h seqno r none)

@@ -1,6 +1,6 @@
 -- What is kept beside a history answers as the requests and the changes do.
 use Rattle.std.proofs.Common.{◌≡◌, ℕ, suc, ◌-◌, ◌≤◌, List, [], ◌∷◌, ◌++◌, Option, None, Some, Bool, true, false, ◌&&◌, ◌||◌, nat_eq, nat_lt, cond, find, length, slice_get, option_map, map, filter, is_some, refl, sym, ◌∙◌, ap, arith}
-use Rattle.std.specs.List.{list_any, filter_map, cons_option, count_by}
+use Rattle.std.specs.List.{list_any, filter_map, cons_option, count_by, AllByRecursion}
 use Rattle.std.specs.Option.{option_or}
 use Rattle.std.proofs.lemmas.List.Sums.{length-filter}
 use Rattle.std.proofs.lemmas.List.Folds.{list_any-append, find-append}
@@ -16,7 +16,7 @@ use Rattle.gl_requests.specs.declared.request.MemberAct.{MemberAct}
 use Rattle.gl_requests.specs.declared.request.MemberAct.TheVariants as acts
 use Rattle.gl_requests.specs.declared.request.GovernanceRequest.{GovernanceRequest}
 use Rattle.gl_requests.specs.declared.request.GovernanceRequest.TheVariants as requests
-use Rattle.gl_gov_rules.specs.History.{History, SignedBy, nothing}
+use Rattle.gl_gov_rules.specs.History.{Carried, History, SignedBy}
 use Rattle.gl_gov_rules.specs.declared.change.Recorded.{Recorded}
 use Rattle.gl_gov_rules.specs.declared.change.Change.{Change}
 use Rattle.gl_gov_rules.specs.declared.change.Change.TheVariants as changes
@@ -24,7 +24,7 @@ use Rattle.gl_gov_rules.specs.declared.change.Changed.{Changed}
 use Rattle.gl_gov_rules.specs.declared.request_facts.Mark.{Mark}
 use Rattle.gl_gov_rules.specs.declared.request_facts.GivenShare.{GivenShare}
 use Rattle.gl_gov_rules.specs.declared.request_facts.Signed.{Signed}
-use Rattle.gl_gov_rules.specs.Members.{is_removed, has_acked, removes_member, is_ack_by, is_acked_by, is_by, leaf_after, leaf_after_last}
+use Rattle.gl_gov_rules.specs.Members.{is_removed, has_acked, removes_member, is_ack_by, is_acked_by, is_by, is_signer, leaf_after, leaf_after_last, leaf_carried, next_leaf}
 use Rattle.gl_gov_rules.specs.declared.change.RecordedNode.{RecordedNode}
 use Rattle.gl_gov_rules.specs.declared.request_facts.Trust.{Trust}
 use Rattle.gl_gov_rules.specs.declared.request_facts.Retirement.{Retirement}
@@ -32,7 +32,7 @@ use Rattle.gl_gov_rules.specs.Nodes.{retirement, is_marked, is_trust_applied, ma
 use Rattle.gl_gov_rules.specs.Service.{last_clearing, shares_given, share_in, share_after, given_in, given_share, given, given_after}
 use Rattle.gl_gov_rules.specs.Proposals.{proposals, settling_in, settlings, is_ballot, is_answer_on, same_answer, answer_in_act, answer_in, answers_of, is_answer, has_answered, ballot_carried, ballot_on, ballot_in, ballot_in_act, ballots_on, is_vote}
 use Rattle.gl_gov_rules.specs.RequestFacts.{removed_in, trust_in, retirement_in, mark_in, signed_by, signed_in}
-use Rattle.gl_gov_rules.specs.Index.{removed, trusts_of, retirements_of, marks_of, signed, made, AreLeavesSmall, last_leaf, next_or_zero, is_retirement_of, first_retirement}
+use Rattle.gl_gov_rules.specs.Index.{removed, trusts_of, retirements_of, marks_of, signed, made, AreLeavesSmall, HasSmallLeaves, last_leaf, leaf_or, is_retirement_of, first_retirement}
 
 -- ---- any of what is reported
 
@@ -319,14 +319,14 @@ last_is : (ss : List Signed) → slice_get ss (length ss - 1) ≡ last_of ss
 last_is [] = refl
 last_is (s ∷ ss) = let e : suc (length ss) - 1 ≡ length ss = omega arith in rw e (last_there s ss)
 
-leaf_alone : (n : ℕ) (r : Recorded) (g : GovernanceRequest) → g ≡ r.request → leaf_after_last 0 (cond (is_by n g) (Some r) None) ≡ next_or_zero (signed_by n r.seqno g)
-leaf_alone n r (requests.Genesis x) e = refl
-leaf_alone n r (requests.Recover x) e = refl
-leaf_alone n r (requests.Join x) e = refl
-leaf_alone n r (requests.Mark id) e = refl
-leaf_alone n r (requests.Member m) e = by (nat_eq m.member n)
+leaf_alone : (k n : ℕ) (r : Recorded) (g : GovernanceRequest) → g ≡ r.request → leaf_after_last k (cond (is_by n g) (Some r) None) ≡ leaf_or k (signed_by n r.seqno g)
+leaf_alone k n r (requests.Genesis x) e = refl
+leaf_alone k n r (requests.Recover x) e = refl
+leaf_alone k n r (requests.Join x) e = refl
+leaf_alone k n r (requests.Mark id) e = refl
+leaf_alone k n r (requests.Member m) e = by (nat_eq m.member n)
   where
-    by : (b : Bool) → leaf_after_last 0 (cond b (Some r) None) ≡ next_or_zero (cond b (Some (signed_in r.seqno m)) None)
+    by : (b : Bool) → leaf_after_last k (cond b (Some r) None) ≡ leaf_or k (cond b (Some (signed_in r.seqno m)) None)
     by true = ap leaf_after (sym e)
     by false = refl
 
@@ -337,22 +337,22 @@ is_reported n seqno (requests.Join x) = refl
 is_reported n seqno (requests.Mark id) = refl
 is_reported n seqno (requests.Member m) = elim (nat_eq m.member n) as (λ (b : Bool). b ≡ is_some (cond b (Some (signed_in seqno m)) None)) [ true ↦ refl | false ↦ refl ]
 
-record SameLast (o : Option Recorded) (p : Option Signed) : Type 0 where
+record SameLast (k : ℕ) (o : Option Recorded) (p : Option Signed) : Type 0 where
   there : is_some o ≡ is_some p
-  leaf : leaf_after_last 0 o ≡ next_or_zero p
+  leaf : leaf_after_last k o ≡ leaf_or k p
 
-both_or : (o a : Option Recorded) (p b : Option Signed) → SameLast o p → SameLast a b → SameLast (option_or o a) (option_or p b)
-both_or None a None b first second = second
-both_or None a (Some p) b first second = absurd (false≢true first.there)
-both_or (Some o) a None b first second = absurd (false≢true (sym first.there))
-both_or (Some o) a (Some p) b first second = first
+both_or : (k : ℕ) (o a : Option Recorded) (p b : Option Signed) → SameLast k o p → SameLast k a b → SameLast k (option_or o a) (option_or p b)
+both_or k None a None b first second = second
+both_or k None a (Some p) b first second = absurd (false≢true first.there)
+both_or k (Some o) a None b first second = absurd (false≢true (sym first.there))
+both_or k (Some o) a (Some p) b first second = first
 
 there_if : (r : Recorded) (b : Bool) → is_some (cond b (Some r) None) ≡ b
 there_if r true = refl
 there_if r false = refl
 
-one_last : (n : ℕ) (r : Recorded) → SameLast (cond (is_by n r.request) (Some r) None) (signed_by n r.seqno r.request)
-one_last n r = record { there = there_if r (is_by n r.request) ∙ is_reported n r.seqno r.request; leaf = leaf_alone n r r.request refl }
+one_last : (k n : ℕ) (r : Recorded) → SameLast k (cond (is_by n r.request) (Some r) None) (signed_by n r.seqno r.request)
+one_last k n r = record { there = there_if r (is_by n r.request) ∙ is_reported n r.seqno r.request; leaf = leaf_alone k n r r.request refl }
 
 last_cons : (o : Option Signed) (ss : List Signed) → last_of (cons_option o ss) ≡ option_or (last_of ss) o
 last_cons None ss = by (last_of ss)
@@ -362,30 +362,43 @@ last_cons None ss = by (last_of ss)
     by (Some s) = refl
 last_cons (Some s) ss = refl
 
-last_reported : (n : ℕ) (rs : List Recorded) → SameLast (last_such (λ (r : Recorded). is_by n r.request) rs) (last_of (filter_map (λ (r : Recorded). signed_by n r.seqno r.request) rs))
-last_reported n [] = record { there = refl; leaf = refl }
-last_reported n (r ∷ rs) =
+last_reported : (k n : ℕ) (rs : List Recorded) →
+    SameLast k (last_such (λ (r : Recorded). is_by n r.request) rs) (last_of (filter_map (λ (r : Recorded). signed_by n r.seqno r.request) rs))
+last_reported k n [] = record { there = refl; leaf = refl }
+last_reported k n (r ∷ rs) =
     rw (last_such-cons (λ (x : Recorded). is_by n x.request) r rs, last_cons (signed_by n r.seqno r.request) (filter_map (λ (x : Recorded). signed_by n x.seqno x.request) rs))
-    (both_or _ _ _ _ (last_reported n rs) (one_last n r))
+    (both_or k _ _ _ _ (last_reported k n rs) (one_last k n r))
 
 -- the last request that a member signed has the last leaf that is told of it
-pub next_of_last : (n : ℕ) (rs : List Recorded) →
-    leaf_after_last 0 (last_such (λ (r : Recorded). is_by n r.request) rs) ≡ last_leaf (filter_map (λ (r : Recorded). signed_by n r.seqno r.request) rs)
-next_of_last n rs = (last_reported n rs).leaf ∙ sym (ap next_or_zero (last_is (filter_map (λ (r : Recorded). signed_by n r.seqno r.request) rs)))
+pub next_of_last : (k n : ℕ) (rs : List Recorded) →
+    leaf_after_last k (last_such (λ (r : Recorded). is_by n r.request) rs) ≡ last_leaf k (filter_map (λ (r : Recorded). signed_by n r.seqno r.request) rs)
+next_of_last k n rs = (last_reported k n rs).leaf ∙ sym (ap (leaf_or k) (last_is (filter_map (λ (r : Recorded). signed_by n r.seqno r.request) rs)))
 
-small_or : (o a : Option Recorded) → leaf_after_last 0 o ≤ 1024 → leaf_after_last 0 a ≤ 1024 → leaf_after_last 0 (option_or o a) ≤ 1024
-small_or None a first second = second
-small_or (Some r) a first second = first
+small_or : (k : ℕ) (o a : Option Recorded) → leaf_after_last k o ≤ 1024 → leaf_after_last k a ≤ 1024 → leaf_after_last k (option_or o a) ≤ 1024
+small_or k None a first second = second
+small_or k (Some r) a first second = first
 
-small_if : (r : Recorded) (b : Bool) → leaf_after r.request ≤ 1024 → leaf_after_last 0 (cond b (Some r) None) ≤ 1024
-small_if r true small = small
-small_if r false small = omega arith
+small_if : (k : ℕ) (r : Recorded) (b : Bool) → k ≤ 1024 → leaf_after r.request ≤ 1024 → leaf_after_last k (cond b (Some r) None) ≤ 1024
+small_if k r true low small = small
+small_if k r false low small = low
 
--- and it is one of a tree of 1,024
-pub last_small : (n : ℕ) (rs : List Recorded) → AreLeavesSmall rs → leaf_after_last 0 (last_such (λ (r : Recorded). is_by n r.request) rs) ≤ 1024
-last_small n [] small = omega arith
-last_small n (r ∷ rs) small =
-    rw (last_such-cons (λ (x : Recorded). is_by n x.request) r rs) (small_or _ _ (last_small n rs small.1) (small_if r (is_by n r.request) small.0))
+-- and it is one of a tree of 1,024, as what is carried is
+last_small : (k n : ℕ) (rs : List Recorded) → k ≤ 1024 → AreLeavesSmall rs → leaf_after_last k (last_such (λ (r : Recorded). is_by n r.request) rs) ≤ 1024
+last_small k n [] low small = low
+last_small k n (r ∷ rs) low small =
+    rw (last_such-cons (λ (x : Recorded). is_by n x.request) r rs) (small_or k _ _ (last_small k n rs low small.1) (small_if k r (is_by n r.request) low small.0))
+
+carried_small : (n : ℕ) (ss : List SignedBy) → AllByRecursion (λ (s : SignedBy). s.next_leaf ≤ 1024) ss → leaf_carried (find (is_signer n) ss) ≤ 1024
+carried_small n [] small = omega arith
+carried_small n (s ∷ ss) small = by (is_signer n s) (carried_small n ss small.1)
+  where
+    by : (b : Bool) → leaf_carried (find (is_signer n) ss) ≤ 1024 → leaf_carried (cond b (Some s) (find (is_signer n) ss)) ≤ 1024
+    by true rest = small.0
+    by false rest = rest
+
+pub leaf_small : (h : History) (n : ℕ) → HasSmallLeaves h.carried → AreLeavesSmall h.requests → next_leaf h n ≤ 1024
+unfolding next_leaf
+leaf_small h n carried asked = last_small (leaf_carried (find (is_signer n) h.carried.signed)) n h.requests (carried_small n h.carried.signed carried) asked
 
 -- ---- what a history answers
 
@@ -393,10 +406,9 @@ pub removed_is : (h : History) (n : ℕ) → is_removed h n ≡ list_any (λ (m 
 unfolding is_removed removed
 removed_is h n = removed_any n h.changes
 
-pub acked_is : (h : History) (n : ℕ) → h.carried.signed ≡ [] → has_acked h n ≡ list_any (λ (t : Signed). t.is_ack) (signed n h)
+pub acked_is : (h : History) (n : ℕ) → has_acked h n ≡ (list_any (is_acked_by n) h.carried.signed || list_any (λ (t : Signed). t.is_ack) (signed n h))
 unfolding has_acked signed
-acked_is h n bare =
-    ap (λ (ss : List SignedBy). list_any (is_acked_by n) ss || list_any (λ (r : Recorded). is_ack_by n r.request) h.requests) bare ∙ acked_any n h.requests
+acked_is h n = ap (λ (b : Bool). list_any (is_acked_by n) h.carried.signed || b) (acked_any n h.requests)
 
 pub marked_is : (h : History) (id : List ℕ) → is_marked h id ≡ list_any (λ (m : Mark). same_bytes id m.id) (marks_of h)
 unfolding is_marked marks_of
@@ -434,6 +446,6 @@ pub shares_count : (h : History) → length (shares_given h) ≡ count_by (λ (g
 unfolding shares_given
 shares_count h = sym (count_given (last_clearing h) (given h)) ∙ length-filter (λ (g : GivenShare). nat_lt (last_clearing h) g.seqno) (given h)
 
-pub settlings_are : (rs : List Recorded) (cs : List Changed) → settlings (record { carried = nothing; requests = rs; changes = cs }) ≡ map (settling_in cs) (made rs)
+pub settlings_are : (k : Carried) (rs : List Recorded) (cs : List Changed) → settlings (record { carried = k; requests = rs; changes = cs }) ≡ map (settling_in cs) (made k rs)
 unfolding settlings proposals
-settlings_are rs cs = refl
+settlings_are k rs cs = refl

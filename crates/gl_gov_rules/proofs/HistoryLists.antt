@@ -17,7 +17,7 @@ use Rattle.gl_gov_rules.proofs.Prefixes.{history-more, requests_with, changes_wi
 
 -- ---- requests
 
-requests_onto : (h : History) (rs : List Recorded) → (fold with_request h rs).requests ≡ h.requests ++ rs
+pub requests_onto : (h : History) (rs : List Recorded) → (fold with_request h rs).requests ≡ h.requests ++ rs
 requests_onto h [] = sym (append-nil h.requests)
 requests_onto h (r ∷ rs) =
     requests_onto (with_request h r) rs ∙ ap (λ (xs : List Recorded). xs ++ rs) (requests_with h r) ∙ push-append h.requests r rs
@@ -33,11 +33,11 @@ requests_of rs = requests_onto no_history rs
 abbrev pub AreBelow : ℕ → List Changed → Type 0
 AreBelow n cs = AllByRecursion (λ (c : Changed). c.seqno < n) cs
 
-below_at : (n seqno : ℕ) (cs : List Change) → seqno < n → AreBelow n (map (changed_at seqno) cs)
+pub below_at : (n seqno : ℕ) (cs : List Change) → seqno < n → AreBelow n (map (changed_at seqno) cs)
 below_at n seqno [] low = tt
 below_at n seqno (c ∷ cs) low = (low, below_at n seqno cs low)
 
-below_onto : (n : ℕ) (h : History) (rs : List Recorded) → AreBelow n h.changes → IsAbove n rs → AreBelow n (fold with_request h rs).changes
+pub below_onto : (n : ℕ) (h : History) (rs : List Recorded) → AreBelow n h.changes → IsAbove n rs → AreBelow n (fold with_request h rs).changes
 below_onto n h [] old above = old
 below_onto n h (r ∷ rs) old above =
     let both = each_append (λ (c : Changed). c.seqno < n) h.changes (map (changed_at r.seqno) (changes_of h r)) old (below_at n r.seqno (changes_of h r) above.0) in

@@ -62,7 +62,7 @@ recovers_none (changes.Settled id state) leaves = refl
 recovers_none changes.Completed leaves = refl
 
 -- such changes set no key
-none_set : (s : ℕ) (cs : List Change) → leave_key cs ≡ true → last_set sets_identity (map (changed_at s) cs) ≡ None
+pub none_set : (s : ℕ) (cs : List Change) → leave_key cs ≡ true → last_set sets_identity (map (changed_at s) cs) ≡ None
 none_set s [] leave = refl
 none_set s (c ∷ cs) leave =
     let both = and_parts (leaves_key c) (leave_key cs) leave in
@@ -124,7 +124,7 @@ request_leaves h given s (requests.Join n) founds recovers = refl
 request_leaves h given s (requests.Mark id) founds recovers = refl
 request_leaves h given s (requests.Member m) founds recovers = act_leaves h given s m.act
 
-brought_leave : (h : History) (r : Recorded) → is_founding r.request ≡ false → is_recovery r.request ≡ false → leave_key (changes_of h r) ≡ true
+pub brought_leave : (h : History) (r : Recorded) → is_founding r.request ≡ false → is_recovery r.request ≡ false → leave_key (changes_of h r) ≡ true
 unfolding changes_of
 brought_leave h r founds recovers = request_leaves h (answers_with h r.request) r.seqno r.request founds recovers
 

@@ -6,6 +6,7 @@ pub mod HistoryIndex
 pub mod NothingCarried
 pub mod Rising
 pub mod Cutting
+pub mod OverBase
 pub mod CutLists
 pub mod Endorsements
 pub mod Counting

@@ -21,7 +21,7 @@ pub carried_with : (h : History) (r : Recorded) → (with_request h r).carried �
 unfolding with_request
 carried_with h r = refl
 
-carried_onto : (h : History) (rs : List Recorded) → (fold with_request h rs).carried ≡ h.carried
+pub carried_onto : (h : History) (rs : List Recorded) → (fold with_request h rs).carried ≡ h.carried
 carried_onto h [] = refl
 carried_onto h (r ∷ rs) = carried_onto (with_request h r) rs ∙ carried_with h r
 

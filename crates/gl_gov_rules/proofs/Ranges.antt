@@ -87,7 +87,7 @@ abbrev pub are_proposals : List Proposal → Bool
 are_proposals ps = list_all (λ (p : Proposal). are_actions p.actions) ps
 
 -- a request more makes a proposal more, or none
-proposals_after : (h : History) (r : Recorded) → proposals (with_request h r) ≡ proposals h ++ filter_map (λ (q : Recorded). proposal_in q.seqno q.request) (r ∷ [])
+pub proposals_after : (h : History) (r : Recorded) → proposals (with_request h r) ≡ proposals h ++ filter_map (λ (q : Recorded). proposal_in q.seqno q.request) (r ∷ [])
 unfolding proposals with_request
 proposals_after h r =
     let made : Recorded → Option Proposal = λ (q : Recorded). proposal_in q.seqno q.request in
@@ -103,7 +103,7 @@ member_act m fits =
     let a = and_parts (is_member_number m.member && is_act m.act) (is_signature_field m.signature) fits in
     (and_parts (is_member_number m.member) (is_act m.act) a.0).1
 
-proposed_in_range : (seqno : ℕ) (q : GovernanceRequest) → is_request q ≡ true → IfSome (proposal_in seqno q) (λ (p : Proposal). are_actions p.actions ≡ true)
+pub proposed_in_range : (seqno : ℕ) (q : GovernanceRequest) → is_request q ≡ true → IfSome (proposal_in seqno q) (λ (p : Proposal). are_actions p.actions ≡ true)
 proposed_in_range seqno (requests.Member m) fits = by_act m.act (member_act m fits)
   where
     by_act : (act : MemberAct) → is_act act ≡ true → IfSome (proposal_in_act seqno m act) (λ (p : Proposal). are_actions p.actions ≡ true)
@@ -172,7 +172,7 @@ act_in_range h given seqno (acts.Share share) all = complete (is_complete h)
     complete false = refl
 act_in_range h given seqno other all = refl
 
-brought_in_range : (h : History) (given : List Answered) (seqno : ℕ) (q : GovernanceRequest) → is_request q ≡ true → are_proposals (proposals h) ≡ true →
+pub brought_in_range : (h : History) (given : List Answered) (seqno : ℕ) (q : GovernanceRequest) → is_request q ≡ true → are_proposals (proposals h) ≡ true →
     are_changes (map (changed_at seqno) (request_changes h given seqno q)) ≡ true
 brought_in_range h given seqno (requests.Genesis g) fits all = founding_in_range seqno g fits
 brought_in_range h given seqno (requests.Recover r) fits all =

@@ -40,14 +40,14 @@ abbrev are_elsewhere : List ℕ → List Write → Bool
 are_elsewhere name ws = list_all (is_elsewhere name) ws
 
 -- writes to other maps leave the rows of a map as they are
-passed_over : (name : List ℕ) (t : Tables) (ws : List Write) → are_elsewhere name ws ≡ true → wrote_all t ws name ≡ t name
+pub passed_over : (name : List ℕ) (t : Tables) (ws : List Write) → are_elsewhere name ws ≡ true → wrote_all t ws name ≡ t name
 passed_over name t [] all = refl
 passed_over name t (w ∷ ws) all =
     let both = and_parts (is_elsewhere name w) (are_elsewhere name ws) all in
     passed_over name (wrote t w) ws both.1 ∙ ap (λ (b : Bool). if b then with_row (t name) w.key w.value else t name) (not-true (same_bytes name w.map) both.0)
 
 -- writes that are made of items are elsewhere where each is
-made_elsewhere : {A : Type 0} (name : List ℕ) (write : A → Write) → ((a : A) → is_elsewhere name (write a) ≡ true) → (items : List A) → are_elsewhere name (map write items) ≡ true
+pub made_elsewhere : {A : Type 0} (name : List ℕ) (write : A → Write) → ((a : A) → is_elsewhere name (write a) ≡ true) → (items : List A) → are_elsewhere name (map write items) ≡ true
 made_elsewhere name write each [] = refl
 made_elsewhere name write each (a ∷ items) = and_from (is_elsewhere name (write a)) (are_elsewhere name (map write items)) (each a) (made_elsewhere name write each items)
 
@@ -73,7 +73,7 @@ unfolding proposal_writes
 proposals_elsewhere h = made_elsewhere service_map (λ (p : Proposal). proposal_write p.id (proposal_row h p)) (λ p. refl) (proposals h)
 
 -- all rows before the service's
-abbrev rows_before_service : History → List Write
+abbrev pub rows_before_service : History → List Write
 rows_before_service h = rule_writes_of (constitution h) ++ write_of dealing_write (dealing h) ++ map member_write (member_rows h) ++ map node_write (node_rows h) ++ proposal_writes h
 
 prefix_elsewhere : (h : History) → are_elsewhere service_map (rows_before_service h) ≡ true
@@ -90,20 +90,20 @@ prefix_elsewhere h =
     (made_elsewhere service_map node_write (λ n. refl) (node_rows h)))
     (proposals_elsewhere h)
 
-abbrev of_service : History → List Write
+abbrev pub of_service : History → List Write
 of_service h = write_of service_write (service_row h)
 
-abbrev of_shares : History → List Write
+abbrev pub of_shares : History → List Write
 of_shares h = map share_write (shares_given h)
 
-parts_of_rows : (h : History) → all_rows h ≡ rows_before_service h ++ of_service h ++ of_shares h
+pub parts_of_rows : (h : History) → all_rows h ≡ rows_before_service h ++ of_service h ++ of_shares h
 unfolding all_rows
 parts_of_rows h = refl
 
 -- ---- what is reported
 
 -- the tables of all rows before the service's
-abbrev table_before_service : History → Tables
+abbrev pub table_before_service : History → Tables
 table_before_service h = wrote_all no_tables (rows_before_service h)
 
 -- the row of the service is as the service's own write leaves it
@@ -154,7 +154,7 @@ unfolding changes_of
 founding_sets_both h r founds = founding_sets h (answers_with h r.request) r.seqno r.request founds
 
 -- what stood in front stays, and what comes after is set
-set_kept : (cs ds : List Changed) → AreSet cs → AreSet (cs ++ ds)
+pub set_kept : (cs ds : List Changed) → AreSet cs → AreSet (cs ++ ds)
 set_kept cs ds set = record { key = set_before sets_identity cs ds set.key; state = λ recovered. set_before (sets_state recovered) cs ds (set.state recovered) }
 
 set_new : (cs ds : List Changed) → AreSet ds → AreSet (cs ++ ds)
@@ -171,7 +171,7 @@ both_set = governed_induction (λ (rs : List Recorded). is_nothing rs ≡ false 
     step [] r all follows old e = more [] r (set_new (history []).changes (map (changed_at r.seqno) (changes_of (history []) r)) (founding_sets_both (history []) r follows.founding))
     step (x ∷ rs) r all follows old e = more (x ∷ rs) r (set_kept (history (x ∷ rs)).changes (map (changed_at r.seqno) (changes_of (history (x ∷ rs)) r)) (old refl))
 
-row_of_both : (h : History) → AreSet h.changes → (s : ServiceRow) × (service_row h ≡ Some s)
+pub row_of_both : (h : History) → AreSet h.changes → (s : ServiceRow) × (service_row h ≡ Some s)
 unfolding service_row service_state identity
 row_of_both h set = go (last_set (sets_state (is_recovered h)) h.changes) (last_set sets_identity h.changes) (set.state (is_recovered h)) set.key
   where
@@ -186,7 +186,7 @@ founded_row r rs all = row_of_both (history (r ∷ rs)) (both_set (r ∷ rs) all
 
 -- ---- the fields of the row
 
-row_parts : (h : History) (s : ServiceRow) → service_row h ≡ Some s → (identity h ≡ Some s.identity) × (service_state h ≡ Some s.state)
+pub row_parts : (h : History) (s : ServiceRow) → service_row h ≡ Some s → (identity h ≡ Some s.identity) × (service_state h ≡ Some s.state)
 unfolding service_row
 row_parts h s there = go (service_state h) (identity h) there
   where

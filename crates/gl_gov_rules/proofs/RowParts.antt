@@ -109,7 +109,7 @@ founding_nodes g fits =
     let c = and_parts (is_first_state g.state && are_sized 60 g.identity) (are_counted is_node g.nodes) b.0 in
     (and_parts (nat_lt (length g.nodes) 256) (list_all is_node g.nodes) c.1).1
 
-nodes_of_request : (seqno : ℕ) (q : GovernanceRequest) → is_request q ≡ true → list_all is_recorded_node (nodes_recorded seqno q) ≡ true
+pub nodes_of_request : (seqno : ℕ) (q : GovernanceRequest) → is_request q ≡ true → list_all is_recorded_node (nodes_recorded seqno q) ≡ true
 nodes_of_request seqno (requests.Genesis g) fits = all_recorded seqno g.nodes (founding_nodes g fits)
 nodes_of_request seqno (requests.Recover r) fits =
     let counted = (and_parts (are_sized 60 r.identity) (are_counted is_node r.nodes) fits).1 in
@@ -138,7 +138,7 @@ made_fits : (seqno : ℕ) (m : MemberRequest) (act : MemberAct) → is_member_re
 made_fits seqno m (acts.Propose list) fits = and_from (is_digest (proposal_id m)) (is_byte m.member) (sha256_digest (request_bytes (requests.Member m))) (member_of m fits)
 made_fits seqno m other fits = tt
 
-proposed_fits : (seqno : ℕ) (q : GovernanceRequest) → is_request q ≡ true → IfSome (proposal_in seqno q) (λ (p : Proposal). is_made_proposal p ≡ true)
+pub proposed_fits : (seqno : ℕ) (q : GovernanceRequest) → is_request q ≡ true → IfSome (proposal_in seqno q) (λ (p : Proposal). is_made_proposal p ≡ true)
 proposed_fits seqno (requests.Member m) fits = made_fits seqno m m.act fits
 proposed_fits seqno other fits = tt
 
@@ -158,7 +158,7 @@ share_of_act : (m : MemberRequest) (act : MemberAct) → is_member_request m ≡
 share_of_act m (acts.Share value) fits act_fits = and_from (is_byte m.member) (is_digest value) (member_of m fits) act_fits
 share_of_act m other fits act_fits = tt
 
-share_of_request : (q : GovernanceRequest) → is_request q ≡ true → IfSome (share_in q) (λ (s : Share). is_given_share s ≡ true)
+pub share_of_request : (q : GovernanceRequest) → is_request q ≡ true → IfSome (share_in q) (λ (s : Share). is_given_share s ≡ true)
 share_of_request (requests.Member m) fits = share_of_act m m.act fits (member_act m fits)
 share_of_request other fits = tt
 

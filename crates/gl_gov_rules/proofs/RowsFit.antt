@@ -34,7 +34,7 @@ use Rattle.gl_gov_rules.proofs.NothingCarried.{nothing_carried}
 abbrev all_fit : List Write → Type 0
 all_fit ws = list_all is_write ws ≡ true
 
-fit-append : (xs ys : List Write) → all_fit xs → all_fit ys → all_fit (xs ++ ys)
+pub fit-append : (xs ys : List Write) → all_fit xs → all_fit ys → all_fit (xs ++ ys)
 fit-append xs ys one two = list_all-append is_write xs ys ∙ and_from (list_all is_write xs) (list_all is_write ys) one two
 
 -- ---- rows of one table
@@ -45,7 +45,7 @@ member_rows_fit h (m ∷ ms) all =
     let both = and_parts (is_member m) (list_all is_member ms) all in
     and_from (is_write (member_write (member_row h m))) (list_all is_write (map member_write (map (member_row h) ms))) (member_row_fits h m both.0) (member_rows_fit h ms both.1)
 
-members_rows_fit : (h : History) → list_all is_member (members h) ≡ true → all_fit (map member_write (member_rows h))
+pub members_rows_fit : (h : History) → list_all is_member (members h) ≡ true → all_fit (map member_write (member_rows h))
 unfolding member_rows
 members_rows_fit h all = member_rows_fit h (members h) all
 
@@ -57,7 +57,7 @@ node_rows_from_fit h order (n ∷ ns) all short =
     and_from (is_write (node_write (node_row h order n))) (list_all is_write (map node_write (node_rows_from h (suc order) ns)))
     (node_row_fits h order n both.0 short.0) (node_rows_from_fit h (suc order) ns both.1 short.1)
 
-nodes_rows_fit : (h : History) → list_all is_recorded_node (nodes h) ≡ true → AllByRecursion (λ (n : RecordedNode). length n.node.endorsement ≤ 2508) (nodes h) → all_fit (map node_write (node_rows h))
+pub nodes_rows_fit : (h : History) → list_all is_recorded_node (nodes h) ≡ true → AllByRecursion (λ (n : RecordedNode). length n.node.endorsement ≤ 2508) (nodes h) → all_fit (map node_write (node_rows h))
 unfolding node_rows
 nodes_rows_fit h all short = node_rows_from_fit h 1 (nodes h) all short
 
@@ -69,15 +69,15 @@ proposal_rows_fit h (p ∷ ps) all bounded =
     and_from (is_write (proposal_write p.id (proposal_row h p))) (list_all is_write (map (λ (q : Proposal). proposal_write q.id (proposal_row h q)) ps))
     (proposal_row_fits h p both.0 bounded.0) (proposal_rows_fit h ps both.1 bounded.1)
 
-proposals_rows_fit : (h : History) → list_all is_made_proposal (proposals h) ≡ true → AllByRecursion IsBoundedProposal (proposals h) → all_fit (proposal_writes h)
+pub proposals_rows_fit : (h : History) → list_all is_made_proposal (proposals h) ≡ true → AllByRecursion IsBoundedProposal (proposals h) → all_fit (proposal_writes h)
 unfolding proposal_writes
 proposals_rows_fit h all bounded = proposal_rows_fit h (proposals h) all bounded
 
-service_fits : (h : History) → are_changes h.changes ≡ true → all_fit (write_of service_write (service_row h))
+pub service_fits : (h : History) → are_changes h.changes ≡ true → all_fit (write_of service_write (service_row h))
 unfolding service_row
 service_fits h all = service_row_fits (service_state h) (is_recovered h) (identity h) (key_in_range h all)
 
-share_rows_fit : (ss : List Share) → list_all is_given_share ss ≡ true → all_fit (map share_write ss)
+pub share_rows_fit : (ss : List Share) → list_all is_given_share ss ≡ true → all_fit (map share_write ss)
 share_rows_fit [] all = refl
 share_rows_fit (s ∷ ss) all =
     let both = and_parts (is_given_share s) (list_all is_given_share ss) all in
@@ -130,7 +130,7 @@ removals_fit (w ∷ ws) all =
     and_from (is_write (removal_of w)) (list_all is_write (map removal_of ws)) (removal_fits w both.0) (removals_fit ws both.1)
 
 -- the changes from rows that fit to others that do
-changes_fit : (before after : List Write) → all_fit before → all_fit after → all_fit (changes before after)
+pub changes_fit : (before after : List Write) → all_fit before → all_fit after → all_fit (changes before after)
 changes_fit before after old new =
     list_all-set_from is_write [] (changes_listed before after) refl
     (fit-append (filter (is_changed before) after) (map removal_of (filter (is_gone after) before))

@@ -10,12 +10,12 @@ use Rattle.gl_gov_rules.specs.Governed.{up_to}
 use Rattle.gl_gov_rules.specs.Rising.{IsRising}
 use Rattle.gl_gov_rules.specs.Index.{made}
 use Rattle.gl_gov_rules.proofs.CutLists.{requests_above, requests_split}
-use Rattle.gl_gov_rules.proofs.ByRequests.{one_more}
+use Rattle.gl_gov_rules.proofs.ByRequests.{one_more_after}
 use Rattle.gl_gov_rules.specs.declared.change.Changed.{Changed}
 use Rattle.gl_gov_rules.specs.declared.change.Proposal.{Proposal}
 use Rattle.gl_gov_rules.specs.declared.change.ProposalState.{ProposalState}
 use Rattle.gl_gov_rules.specs.declared.change.Settling.{Settling}
-use Rattle.gl_gov_rules.specs.History.{History}
+use Rattle.gl_gov_rules.specs.History.{Carried, History}
 use Rattle.std.proofs.lemmas.List.Sums.{length-filter}
 use Rattle.std.proofs.lemmas.List.Quantifiers.{position-Some}
 use Rattle.std.proofs.lemmas.Option.{same_Some}
@@ -174,22 +174,27 @@ map_settled : (to : ℕ) (ps : List Proposal) (cs ds : List Changed) → AllByRe
 map_settled to [] cs ds prefix back = refl
 map_settled to (p ∷ ps) cs ds prefix back = rw (settling_left to p cs ds prefix back) (ap (λ ys. settling_in cs p ∷ ys) (map_settled to ps cs ds prefix back))
 
-made_parts : (to : ℕ) (rs : List Recorded) → IsRising rs → made rs ≡ made (up_to to rs) ++ made (requests_above to rs)
-made_parts to rs rising = ap made (requests_split to rs rising) ∙ filter_map-append (λ (r : Recorded). proposal_in r.seqno r.request) (up_to to rs) (requests_above to rs)
+abbrev asked : List Recorded → List Proposal
+asked rs = filter_map (λ (r : Recorded). proposal_in r.seqno r.request) rs
+
+made_parts : (to : ℕ) (k : Carried) (rs : List Recorded) → IsRising rs → made k rs ≡ made k (up_to to rs) ++ asked (requests_above to rs)
+made_parts to k rs rising =
+    ap (made k) (requests_split to rs rising) ∙ ap (λ (ps : List Proposal). k.proposals ++ ps) (filter_map-append (λ (r : Recorded). proposal_in r.seqno r.request) (up_to to rs) (requests_above to rs))
+    ∙ sym (append_assoc k.proposals (asked (up_to to rs)) (asked (requests_above to rs)))
 
 -- what settles the proposals up to a seqno, by the changes up to it
-pub settled_left : (to n count : ℕ) (rs : List Recorded) (cs left : List Changed) (ss after : List (Option Settling)) → IsRising rs → left ≡ take n cs → left ≡ filter (is_low to) cs →
-    ss ≡ map (settling_in cs) (made rs) → count ≡ length (made (up_to to rs)) → after ≡ map (settling_up_to to) (take count ss) → after ≡ map (settling_in left) (made (up_to to rs))
-settled_left to n count rs cs left ss after rising prefix low are counted cut =
-    let us = made (up_to to rs) in
+pub settled_left : (to n count : ℕ) (k : Carried) (rs : List Recorded) (cs left : List Changed) (ss after : List (Option Settling)) → IsRising rs → left ≡ take n cs → left ≡ filter (is_low to) cs →
+    ss ≡ map (settling_in cs) (made k rs) → count ≡ length (made k (up_to to rs)) → after ≡ map (settling_up_to to) (take count ss) → after ≡ map (settling_in left) (made k (up_to to rs))
+settled_left to n count k rs cs left ss after rising prefix low are counted cut =
+    let us = made k (up_to to rs) in
     let ds = drop n cs in
     let parts : cs ≡ left ++ ds = sym (take-append-drop n cs) ∙ ap (λ zs. zs ++ ds) (sym prefix) in
     let back : AllByRecursion (λ (c : Changed). is_low to c ≡ false) ds = rest_fails (is_low to) cs ds (parts ∙ ap (λ zs. zs ++ ds) low) in
     let ahead : AllByRecursion (λ (c : Changed). is_low to c ≡ true) left = rw low (all_in (is_low to) cs) in
     let taken : take count ss ≡ map (settling_in cs) us =
-    ap (take count) (are ∙ ap (map (settling_in cs)) (made_parts to rs rising) ∙ map-append (settling_in cs) us (made (requests_above to rs)))
-    ∙ ap (λ m. take m (map (settling_in cs) us ++ map (settling_in cs) (made (requests_above to rs)))) (counted ∙ sym (length-map us (settling_in cs)))
-    ∙ take-append_seam (map (settling_in cs) us) (map (settling_in cs) (made (requests_above to rs))) in
+    ap (take count) (are ∙ ap (map (settling_in cs)) (made_parts to k rs rising) ∙ map-append (settling_in cs) us (asked (requests_above to rs)))
+    ∙ ap (λ m. take m (map (settling_in cs) us ++ map (settling_in cs) (asked (requests_above to rs)))) (counted ∙ sym (length-map us (settling_in cs)))
+    ∙ take-append_seam (map (settling_in cs) us) (map (settling_in cs) (asked (requests_above to rs))) in
     cut ∙ ap (map (settling_up_to to)) (taken ∙ ap (λ zs. map (settling_in zs) us) parts) ∙ map_settled to us left ds ahead back
 
 -- ---- more changes, and one proposal more
@@ -201,17 +206,17 @@ settled_more cs ds ms after ps qs ss0 ss news whole w s0 step same are m a =
     w ∙ step cs (s0 ∙ are ∙ ap (map (settling_in cs)) (sym same)) ∙ ap (map (settling_in (cs ++ ms))) same
     ∙ ap (λ zs. map (settling_in zs) qs) (ap (λ d. cs ++ d) m ∙ sym a)
 
-made_more : (rs : List Recorded) (r : Recorded) → made (rs ++ r ∷ []) ≡ made rs ++ option_to_list (proposal_in r.seqno r.request)
-made_more rs r = sym (one_more (λ (x : Recorded). proposal_in x.seqno x.request) rs r (made rs) _ refl refl)
+made_more : (k : Carried) (rs : List Recorded) (r : Recorded) → made k (rs ++ r ∷ []) ≡ made k rs ++ option_to_list (proposal_in r.seqno r.request)
+made_more k rs r = sym (one_more_after k.proposals (λ (x : Recorded). proposal_in x.seqno x.request) rs r (made k rs) _ refl refl)
 
-pub settled_with : (rs after : List Recorded) (r : Recorded) (cs ds : List Changed) (ps : List Proposal) (ys zs : List (Option Settling)) (n : ℕ) → ys ≡ map (settling_in cs) (made rs) → length ys ≡ n →
-    after ≡ rs ++ r ∷ [] → ps ≡ made (rs ++ r ∷ []) → ds ≡ cs → zs ≡ ys ++ option_to_list (option_map (settling_in ds) (slice_get ps n)) → zs ≡ map (settling_in cs) (made after)
-settled_with rs after r cs ds ps ys zs n are size pushed same changed put =
+pub settled_with : (k : Carried) (rs after : List Recorded) (r : Recorded) (cs ds : List Changed) (ps : List Proposal) (ys zs : List (Option Settling)) (n : ℕ) → ys ≡ map (settling_in cs) (made k rs) → length ys ≡ n →
+    after ≡ rs ++ r ∷ [] → ps ≡ made k (rs ++ r ∷ []) → ds ≡ cs → zs ≡ ys ++ option_to_list (option_map (settling_in ds) (slice_get ps n)) → zs ≡ map (settling_in cs) (made k after)
+settled_with k rs after r cs ds ps ys zs n are size pushed same changed put =
     let o = proposal_in r.seqno r.request in
-    one_settled (settling_in cs) (made rs) o ys zs n are size
+    one_settled (settling_in cs) (made k rs) o ys zs n are size
     (put ∙ ap (λ us. ys ++ option_to_list (option_map (settling_in us) (slice_get ps n))) changed
-    ∙ ap (λ qs. ys ++ option_to_list (option_map (settling_in cs) (slice_get qs n))) (same ∙ made_more rs r))
-    ∙ ap (map (settling_in cs)) (sym (ap made pushed ∙ made_more rs r))
+    ∙ ap (λ qs. ys ++ option_to_list (option_map (settling_in cs) (slice_get qs n))) (same ∙ made_more k rs r))
+    ∙ ap (map (settling_in cs)) (sym (ap (made k) pushed ∙ made_more k rs r))
 
 -- ---- how many are open
 

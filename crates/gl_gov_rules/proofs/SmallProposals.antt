@@ -62,7 +62,7 @@ unfolding act_refusal
 small_in_act h seqno m (acts.Propose list) none fits few = small_actions h seqno list (all_tried h seqno m list none) fits few
 small_in_act h seqno m other none fits few = tt
 
-small_in : (h : History) (seqno : ℕ) (q : GovernanceRequest) → refusal h seqno q ≡ None → is_request q ≡ true → left_in h.changes ≤ 64 → IfSome (proposal_in seqno q) IsSmall
+pub small_in : (h : History) (seqno : ℕ) (q : GovernanceRequest) → refusal h seqno q ≡ None → is_request q ≡ true → left_in h.changes ≤ 64 → IfSome (proposal_in seqno q) IsSmall
 small_in h seqno (requests.Member m) none fits few = small_in_act h seqno m m.act (act_passes h seqno m none) (member_act m fits) few
 small_in h seqno other none fits few = tt
 

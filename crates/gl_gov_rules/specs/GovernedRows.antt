@@ -1,6 +1,6 @@
 -- The rows of governance as values, read off a snapshot's rows, and the history that begins with
 -- them.
-use Rattle.std.specs.Prelude.{ℕ, zero, suc, ◌+◌, List, [], ◌∷◌, ◌++◌, Option, None, Some, Bool, true, false, ◌&&◌, ◌||◌, not, Result, Ok, Err, length, map, min, filter, filter_map, fold, find, is_some, nat_le, nat_lt, nat_eq, slice_index_or, ◌==◌, if◌then◌else◌}
+use Rattle.std.specs.Prelude.{ℕ, ◌≤◌, zero, suc, List, [], ◌∷◌, ◌++◌, Option, None, Some, Bool, true, false, ◌&&◌, ◌||◌, not, Result, Ok, Err, length, map, min, filter, filter_map, fold, find, is_some, nat_le, nat_lt, nat_eq, slice_index_or, ◌==◌, if◌then◌else◌}
 use Rattle.std.specs.List.{flat_map}
 use Rattle.std.specs.Result.{result_ok}
 use Rattle.sha2.specs.Sha256.{sha256}
@@ -18,7 +18,6 @@ use Rattle.gl_requests.specs.Parsing.{rule_at, dealing_at, digest_at, node_at, a
 use Rattle.gl_requests.specs.declared.genesis.ServiceState.TheVariants as services
 use Rattle.gl_requests.specs.declared.genesis.NewMember.{NewMember}
 use Rattle.gl_requests.specs.declared.genesis.Dealing.{Dealing}
-use Rattle.gl_requests.specs.declared.action.Rule.{Rule}
 use Rattle.gl_requests.specs.declared.action.Action.{Action}
 use Rattle.gl_requests.specs.declared.action.Action.TheVariants as actions
 use Rattle.gl_gov_rules.specs.declared.change.RecordedNode.{RecordedNode}
@@ -36,34 +35,18 @@ use Rattle.gl_gov_rules.specs.declared.row.ServiceRow.{ServiceRow}
 use Rattle.gl_gov_rules.specs.declared.row.MemberRow.{MemberRow}
 use Rattle.gl_gov_rules.specs.declared.row.NodeRow.{NodeRow}
 use Rattle.gl_gov_rules.specs.declared.row.ProposalRow.{ProposalRow}
+use Rattle.gl_gov_rules.specs.declared.row.ProposalAt.{ProposalAt}
+use Rattle.gl_gov_rules.specs.declared.row.RuleAt.{RuleAt}
+use Rattle.gl_gov_rules.specs.declared.row.GovernedRows.{GovernedRows}
 use Rattle.gl_gov_rules.specs.declared.request_facts.Mark.{Mark}
 use Rattle.gl_gov_rules.specs.declared.change.Recorded.{Recorded}
 use Rattle.gl_gov_rules.specs.History.{History, Carried, Answered, SignedBy, no_history}
 use Rattle.gl_gov_rules.specs.Nodes.{is_trusted_status}
 use Rattle.gl_gov_rules.specs.Proposals.{is_open_state}
-use Rattle.gl_gov_rules.specs.Changes.{changed_at, set_member, with_request}
+use Rattle.gl_gov_rules.specs.Changes.{changed_at, set_member, with_request, history}
 use Rattle.gl_gov_rules.specs.Rows.{service_map, service_key, members_map, member_byte, nodes_map, node_byte, proposals_map, proposal_byte, constitution_map, dealing_map, dealing_key, shares_map}
 
--- A proposal under its identifier, and a rule under the number of its action.
-pub record ProposalAt : Type 0 where
-  pub id : List ℕ
-  pub row : ProposalRow
-
-pub record RuleAt : Type 0 where
-  pub number : ℕ
-  pub rule : Rule
-
--- The rows of governance as values, after the entry with a seqno.
-pub record GovernedRows : Type 0 where
-  pub seqno : ℕ
-  pub service : Option ServiceRow
-  pub members : List MemberRow
-  pub nodes : List NodeRow
-  pub proposals : List ProposalAt
-  pub rules : List RuleAt
-  pub dealing : Option Dealing
-  pub shares : List Share
-
+-- No rows yet, after the entry with a seqno.
 abbrev pub no_rows : ℕ → GovernedRows
 no_rows seqno = record {
   seqno = seqno;
@@ -238,6 +221,8 @@ with_row g r =
 
 -- ---- what stands for the requests up to a base
 
+-- A node and a proposal stand at the seqno 0, a mark and a share at the base's. That a member is
+-- Active tells its Ack; of a removed member no Ack is told, and none is asked for.
 abbrev pub carried_node : NodeRow → RecordedNode
 carried_node n = record {
   id = n.id;
@@ -320,9 +305,19 @@ begin_with None = no_history
 begin_with (Some g) =
     record { carried = carried_by g; requests = []; changes = changes_of_rows g }
 
+-- The history of requests behind rows.
+unfoldable pub history_behind : GovernedRows → List Recorded → History
+history_behind g rs = fold with_request (begin_with (Some g)) rs
+
 -- The history of requests behind a base, or from the first on where there is none.
-unfoldable pub history_over : Option GovernedRows → List Recorded → History
-history_over base rs = fold with_request (begin_with base) rs
+abbrev pub history_over : Option GovernedRows → List Recorded → History
+history_over None rs = history rs
+history_over (Some g) rs = history_behind g rs
+
+-- A base, where there is one, is not above a seqno.
+abbrev pub IsBelow : Option GovernedRows → ℕ → Type 0
+IsBelow None to = Unit {0}
+IsBelow (Some g) to = g.seqno ≤ to
 
 -- ---- all rows
 

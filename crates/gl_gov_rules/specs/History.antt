@@ -1,37 +1,16 @@
 -- The history of governance: the requests so far, and the changes that they brought about. All that
 -- is said of members, nodes, proposals and the service is read off these two lists, and off what is
 -- carried in place of requests before them.
-use Rattle.std.specs.Prelude.{ℕ, List, [], Option, None, Some, Bool, is_some}
+use Rattle.std.specs.Prelude.{ℕ, List, [], Option, None, Some, is_some}
 use Rattle.gl_vmaps.specs.LastWrite.{last_such}
 use Rattle.gl_gov_rules.specs.declared.change.Recorded.{Recorded}
 use Rattle.gl_gov_rules.specs.declared.change.Change.{Change}
 use Rattle.gl_gov_rules.specs.declared.change.Changed.{Changed}
-use Rattle.gl_gov_rules.specs.declared.change.RecordedNode.{RecordedNode}
-use Rattle.gl_gov_rules.specs.declared.change.Proposal.{Proposal}
-use Rattle.gl_gov_rules.specs.declared.request_facts.Mark.{Mark}
-use Rattle.gl_gov_rules.specs.declared.request_facts.GivenShare.{GivenShare}
+pub use Rattle.gl_gov_rules.specs.declared.carried.Answered.{Answered}
+pub use Rattle.gl_gov_rules.specs.declared.carried.SignedBy.{SignedBy}
+pub use Rattle.gl_gov_rules.specs.declared.carried.Carried.{Carried}
 
--- A ballot as it is counted: on which proposal, whose, and whether it agrees.
-pub record Answered : Type 0 where
-  pub id : List ℕ
-  pub member : ℕ
-  pub agrees : Bool
-
--- What is known of a member's signatures: 1 plus the leaf of the last, and whether it gave its Ack.
-pub record SignedBy : Type 0 where
-  pub member : ℕ
-  pub next_leaf : ℕ
-  pub is_ack : Bool
-
--- What is carried in place of requests: what they told, as it is read off rows.
-pub record Carried : Type 0 where
-  pub nodes : List RecordedNode
-  pub marks : List Mark
-  pub proposals : List Proposal
-  pub ballots : List Answered
-  pub signed : List SignedBy
-  pub shares : List GivenShare
-
+-- Nothing is carried.
 abbrev pub nothing : Carried
 nothing =
     record { nodes = []; marks = []; proposals = []; ballots = []; signed = []; shares = [] }

@@ -17,9 +17,10 @@ use Rattle.gl_gov_rules.specs.declared.change.RecordedNode.{RecordedNode}
 use Rattle.gl_gov_rules.specs.declared.change.Settling.{Settling}
 use Rattle.gl_gov_rules.specs.declared.request_facts.Signed.{Signed}
 use Rattle.gl_gov_rules.specs.declared.request_facts.Mark.{Mark}
+use Rattle.gl_gov_rules.specs.declared.request_facts.GivenShare.{GivenShare}
 use Rattle.gl_gov_rules.specs.declared.request_facts.Trust.{Trust}
 use Rattle.gl_gov_rules.specs.declared.request_facts.Retirement.{Retirement}
-use Rattle.gl_gov_rules.specs.History.{History}
+use Rattle.gl_gov_rules.specs.History.{Carried, History, SignedBy}
 use Rattle.gl_gov_rules.specs.declared.index.ByChange.{ByChange}
 use Rattle.gl_gov_rules.specs.declared.index.ByRequest.{ByRequest}
 use Rattle.gl_gov_rules.specs.declared.index.Added.{Added}
@@ -29,7 +30,7 @@ use Rattle.gl_index.specs.KeyedLists.{list_on, HasRoomOn}
 use Rattle.gl_gov_rules.specs.Members.{member_named, leaf_after}
 use Rattle.gl_gov_rules.specs.Nodes.{nodes_recorded}
 use Rattle.gl_gov_rules.specs.Service.{given_in}
-use Rattle.gl_gov_rules.specs.Proposals.{proposal_in, ballot_on, settling_in}
+use Rattle.gl_gov_rules.specs.Proposals.{proposal_in, ballot_carried, ballot_on, settling_in}
 use Rattle.gl_gov_rules.specs.RequestFacts.{removed_in, trust_in, retirement_in, mark_in, signed_by}
 
 -- There is room for what a request tells of its signer.
@@ -50,6 +51,10 @@ HasRoomForAnswer b other = Unit {0}
 abbrev pub AreLeavesSmall : List Recorded → Type 0
 AreLeavesSmall rs = AllByRecursion (λ (r : Recorded). leaf_after r.request ≤ 1024) rs
 
+-- So are those that are carried, as of a history that begins with no rows.
+abbrev pub HasSmallLeaves : Carried → Type 0
+HasSmallLeaves k = AllByRecursion (λ (s : SignedBy). s.next_leaf ≤ 1024) k.signed
+
 -- The members whom changes name, the numbers of those whom they remove, the nodes that they trust,
 -- and what takes nodes out of service.
 pub record IsOfChanges (cs : List Changed) (x : ByChange) : Type 0 where
@@ -59,17 +64,24 @@ pub record IsOfChanges (cs : List Changed) (x : ByChange) : Type 0 where
   pub retirements : x.retirements.items
       ≡ filter_map (λ (c : Changed). retirement_in c.seqno c.change) cs
 
--- What requests tell: the nodes, the marks, the shares and the proposals in order, what is told of
--- each signer, and the ballots on each proposal.
-pub record IsOfRequests (rs : List Recorded) (x : ByRequest) : Type 0 where
-  pub nodes : x.nodes.items ≡ flat_map (λ (r : Recorded). nodes_recorded r.seqno r.request) rs
-  pub marks : x.marks.items ≡ filter_map (λ (r : Recorded). mark_in r.seqno r.request) rs
-  pub shares : x.shares.items ≡ filter_map (λ (r : Recorded). given_in r.seqno r.request) rs
-  pub proposals : x.proposals.items
-      ≡ filter_map (λ (r : Recorded). proposal_in r.seqno r.request) rs
+-- The proposals that are carried and those that requests make.
+abbrev pub made : Carried → List Recorded → List Proposal
+made k rs = k.proposals ++ filter_map (λ (r : Recorded). proposal_in r.seqno r.request) rs
+
+-- What is carried and what requests tell: the nodes, the marks, the shares and the proposals in
+-- order, and the ballots on each proposal; and what requests alone tell of each signer.
+pub record IsOfRequests (k : Carried) (rs : List Recorded) (x : ByRequest) : Type 0 where
+  pub nodes : x.nodes.items
+      ≡ k.nodes ++ flat_map (λ (r : Recorded). nodes_recorded r.seqno r.request) rs
+  pub marks : x.marks.items
+      ≡ k.marks ++ filter_map (λ (r : Recorded). mark_in r.seqno r.request) rs
+  pub shares : x.shares.items
+      ≡ k.shares ++ filter_map (λ (r : Recorded). given_in r.seqno r.request) rs
+  pub proposals : x.proposals.items ≡ made k rs
   pub signed : (n : ℕ) → list_at (lists_of x.signed.items) n
       ≡ filter_map (λ (r : Recorded). signed_by n r.seqno r.request) rs
-  pub ballots : (id : List ℕ) → list_on x.ballots id ≡ filter_map (ballot_on id) rs
+  pub ballots : (id : List ℕ) → list_on x.ballots id
+      ≡ filter_map (ballot_carried id) k.ballots ++ filter_map (ballot_on id) rs
   pub known : vec_len x.ballots.lists ≤ vec_len x.ballots.ids
   pub leaves : AreLeavesSmall rs
 
@@ -93,16 +105,19 @@ pub record HasRoomForAdded (x : ByRequest) (added : Added) (g : GovernanceReques
   pub signer : HasRoomForSigner x.signed.items g
   pub answer : HasRoomForAnswer x.ballots g
 
--- The proposals that requests make.
-abbrev pub made : List Recorded → List Proposal
-made rs = filter_map (λ (r : Recorded). proposal_in r.seqno r.request) rs
+-- All that is carried stands up to a seqno.
+pub record IsCarriedTo (to : ℕ) (k : Carried) : Type 0 where
+  pub nodes : AllByRecursion (λ (n : RecordedNode). n.seqno ≤ to) k.nodes
+  pub marks : AllByRecursion (λ (m : Mark). m.seqno ≤ to) k.marks
+  pub shares : AllByRecursion (λ (s : GivenShare). s.seqno ≤ to) k.shares
+  pub proposals : AllByRecursion (λ (p : Proposal). p.seqno ≤ to) k.proposals
 
 -- What stands beside a history.
-pub record IsIndexed (rs : List Recorded) (cs : List Changed) (x : ByChange) (y : ByRequest)
-    (ss : List (Option Settling)) : Type 0 where
+pub record IsIndexed (k : Carried) (rs : List Recorded) (cs : List Changed) (x : ByChange)
+    (y : ByRequest) (ss : List (Option Settling)) : Type 0 where
   pub changes : IsOfChanges cs x
-  pub requests : IsOfRequests rs y
-  pub settlings : ss ≡ map (settling_in cs) (made rs)
+  pub requests : IsOfRequests k rs y
+  pub settlings : ss ≡ map (settling_in cs) (made k rs)
 
 -- The numbers of the members who were removed, the trusts of nodes, what took nodes out of
 -- service, the marks, and what requests tell of a signer.
@@ -126,13 +141,13 @@ signed n h = filter_map (λ (r : Recorded). signed_by n r.seqno r.request) h.req
 unfoldable pub has_mark_after : History → ℕ → Bool
 has_mark_after h seqno = list_any (λ (m : Mark). nat_lt seqno m.seqno) (marks_of h)
 
--- 1 plus the leaf of the last of these, 0 without one.
-abbrev pub next_or_zero : Option Signed → ℕ
-next_or_zero None = 0
-next_or_zero (Some s) = s.next_leaf
+-- 1 plus the leaf of the last of these; what is carried where there is none.
+abbrev pub leaf_or : ℕ → Option Signed → ℕ
+leaf_or carried None = carried
+leaf_or carried (Some s) = s.next_leaf
 
-abbrev pub last_leaf : List Signed → ℕ
-last_leaf ss = next_or_zero (slice_get ss (length ss - 1))
+abbrev pub last_leaf : ℕ → List Signed → ℕ
+last_leaf carried ss = leaf_or carried (slice_get ss (length ss - 1))
 
 -- It takes this node out of service, after the node's own entry.
 abbrev pub is_node_or_all : List ℕ → Option (List ℕ) → Bool

@@ -18,7 +18,7 @@ use Rattle.gl_gov_rules.specs.declared.refusal.NodeStatus.{NodeStatus}
 use Rattle.gl_gov_rules.specs.declared.refusal.NodeStatus.TheVariants as statuses
 use Rattle.gl_gov_rules.specs.History.{History}
 
--- The nodes that a request records. Those that a founding names are trusted from the start.
+-- The nodes that a request records, at its seqno. Those that a founding names are trusted from the start.
 abbrev pub recorded_node : ℕ → Bool → NewNode → RecordedNode
 recorded_node seqno is_founding n =
     record { id = node_id n; seqno = seqno; is_founding = is_founding; node = n }
@@ -29,7 +29,7 @@ nodes_recorded seqno (requests.Recover r) = map (recorded_node seqno true) r.nod
 nodes_recorded seqno (requests.Join n) = recorded_node seqno false n ∷ []
 nodes_recorded seqno other = []
 
--- All nodes that were ever recorded, in that order.
+-- All nodes that were ever recorded, in that order. Those that are carried have the seqno 0.
 unfoldable pub nodes : History → List RecordedNode
 nodes h =
     h.carried.nodes ++ flat_map (λ (r : Recorded). nodes_recorded r.seqno r.request) h.requests
@@ -57,7 +57,8 @@ abbrev pub marks : List ℕ → GovernanceRequest → Bool
 marks id (requests.Mark other) = same_bytes id other
 marks id other = false
 
--- The first change after the node's own entry that took it out of service.
+-- The first change after the node's own entry that took it out of service. One that is carried has
+-- no entry of its own here, so that each removal and recovery comes after it.
 unfoldable pub retirement : History → RecordedNode → Option Changed
 retirement h n =
     find (λ (c : Changed). nat_lt n.seqno c.seqno && retires n.id c.change) h.changes
@@ -72,7 +73,8 @@ is_marked h id =
 unfoldable pub is_trust_applied : History → List ℕ → Bool
 is_trust_applied h id = list_any (λ (c : Changed). trusts id c.change) h.changes
 
--- A founding named the node, or its trust was applied.
+-- A founding named the node, or its trust was applied. One that is carried as trusted counts as
+-- named.
 unfoldable pub was_trusted : History → RecordedNode → Bool
 was_trusted h n = n.is_founding || is_trust_applied h n.id
 
@@ -105,7 +107,8 @@ trusted h =
     map (λ (n : RecordedNode). n.id)
     (filter (λ (n : RecordedNode). is_trusted_status (node_status h n)) (nodes h))
 
--- The seqno of the entry that retired a node, and that of its Mark.
+-- The seqno of the entry that retired a node, and that of its Mark, which is the base's seqno where
+-- the Mark is carried.
 abbrev pub removal_of : History → Option RecordedNode → Option ℕ
 removal_of h None = None
 removal_of h (Some n) = option_map (λ (c : Changed). c.seqno) (retirement h n)

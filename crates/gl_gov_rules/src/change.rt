@@ -50,7 +50,8 @@ pub enum Change {
     Completed,
 }
 
-/// A change, and the seqno of the entry that brought it about.
+/// A change, and the seqno of the entry that brought it about. One that rows stand for has the
+/// seqno 0, but the removal of a node: it has that of the removal, not above the base.
 #[derive(Debug, Drop)]
 pub struct Changed {
     pub seqno: u64,
@@ -62,9 +63,9 @@ pub struct Changed {
 pub struct RecordedNode {
     /// The digest of its key.
     pub id: NodeId,
-    /// The seqno of the entry that recorded it.
+    /// The seqno of the entry that recorded it, 0 where it is carried.
     pub seqno: u64,
-    /// A founding named it, so it was trusted from the start.
+    /// A founding named it, so it was trusted from the start; or it is carried as trusted.
     pub is_founding: bool,
     pub node: NewNode,
 }
@@ -74,7 +75,7 @@ pub struct RecordedNode {
 pub struct Proposal {
     /// The digest of the request that made it.
     pub id: Digest,
-    /// The seqno of the entry that records it.
+    /// The seqno of the entry that records it, 0 where it is carried.
     pub seqno: u64,
     /// The number of the member who made it.
     pub proposer: u8,
@@ -84,7 +85,7 @@ pub struct Proposal {
 /// What settled a proposal.
 #[derive(Clone, Copy, Debug)]
 pub struct Settling {
-    /// The seqno of the entry that did.
+    /// The seqno of the entry that did, 0 where it is carried.
     pub seqno: u64,
     /// The state in which it did.
     pub state: ProposalState,
@@ -93,7 +94,7 @@ pub struct Settling {
 /// A member's ballot on a proposal.
 #[derive(Clone, Copy, Debug)]
 pub struct Ballot {
-    /// The seqno of the entry that records it.
+    /// The seqno of the entry that records it, 0 where it is carried.
     pub seqno: u64,
     /// The number of the member who gave it.
     pub member: u8,

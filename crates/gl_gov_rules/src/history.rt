@@ -2,22 +2,27 @@
 
 ghost use Rattle.gl_requests.specs.Ranges.{is_request};
 
+use crate::carried::{Carried, SignedBy};
 use crate::change::{Ballot, Changed, Proposal, Recorded, RecordedNode, Settling};
 use crate::cut::changes_up_to;
 use crate::index::{Added, ByChange, ByRequest};
 use crate::request_facts::{GivenShare, Mark, Retirement, Signed, Trust};
-use crate::settlings::{cut_settlings, push_settling, settle};
+use crate::row::GovernedRows;
+use crate::row_changes::changes_of_rows;
+use crate::settlings::{cut_settlings, push_settling, settle, settlings_of};
 use gl_index::{append_reserved, copy_all, cut_list, list_at};
 use gl_requests::{Digest, NewMember};
 use std::alloc::{AllocError, Global};
 use std::marker::Model;
 
-/// All requests so far at the seqnos of their entries, and all changes that they brought about.
+/// All requests so far at the seqnos of their entries, and all changes that they brought about;
+/// or those above a base, after what its rows tell in place of the requests before.
 ///
 /// Beside them stands what they tell of members, nodes, proposals and shares, so that no request is
 /// hashed twice, and no question about these goes through all requests.
 #[derive(Drop)]
 pub struct History {
+    carried: Carried,
     requests: Vec<Recorded>,
     changes: Vec<Changed>,
     by_change: ByChange,
@@ -27,31 +32,32 @@ pub struct History {
 }
 
 impl Model for History {
-    ghost use Rattle.gl_gov_rules.specs.History.{History, nothing};
+    ghost use Rattle.gl_gov_rules.specs.History.{History};
     ghost use Rattle.gl_gov_rules.specs.Index.{IsIndexed};
 
     ghost Value = { History };
 
     ghost view = { λ h. record {
-      carried = nothing;
+      carried = h.carried;
       requests = h.requests.items;
       changes = h.changes.items;
     } };
 
     ghost invariant = { λ h.
-        IsIndexed h.requests.items h.changes.items h.by_change h.by_request
+        IsIndexed h.carried h.requests.items h.changes.items h.by_change h.by_request
         h.settlings.items };
 }
 
 impl History {
-    ghost use Rattle.std.specs.Prelude.{◌≡◌, ◌++◌, ◌∷◌, [], true, IfOk, OnOk, OnErr};
+    ghost use Rattle.std.specs.Prelude.{◌≡◌, ◌++◌, ◌∷◌, [], Option, Some, true, IfOk, OnOk, OnErr};
     ghost use Rattle.gl_gov_rules.specs.History.{no_history};
     ghost use Rattle.gl_gov_rules.specs.Members.{members};
     ghost use Rattle.gl_gov_rules.specs.Nodes.{nodes};
     ghost use Rattle.gl_gov_rules.specs.Proposals.{proposals, ballots_on, settlings};
     ghost use Rattle.gl_gov_rules.specs.Service.{given};
     ghost use Rattle.gl_gov_rules.specs.Index.{removed, trusts_of, retirements_of, marks_of, signed, AreLeavesSmall};
-    ghost use Rattle.gl_gov_rules.specs.Changes.{history};
+    ghost use Rattle.gl_gov_rules.specs.declared.row.GovernedRows.{GovernedRows};
+    ghost use Rattle.gl_gov_rules.specs.GovernedRows.{begin_with, history_over, IsBelow};
     ghost use Rattle.gl_gov_rules.specs.Governed.{up_to};
     ghost use Rattle.gl_gov_rules.specs.Rising.{IsRising};
 
@@ -60,6 +66,7 @@ impl History {
         ensures { result ≡ no_history }
     {
         History {
+            carried: Carried::new(alloc),
             requests: Vec::new(alloc),
             changes: Vec::new(alloc),
             by_change: ByChange::new(alloc),
@@ -68,11 +75,31 @@ impl History {
         }
     }
 
+    /// The history that begins with rows in place of the requests up to their seqno.
+    pub fn of_rows(alloc: Global, rows: &GovernedRows) -> Result<Self, AllocError>
+        ensures { IfOk result (λ history. history ≡ begin_with (Some rows.now)) }
+    {
+        let carried = Carried::of_rows(alloc, rows)?;
+        let changes = changes_of_rows(alloc, rows)?;
+        let by_change = ByChange::of(alloc, &changes)?;
+        let by_request = ByRequest::of_carried(alloc, &carried)?;
+        let settlings = settlings_of(alloc, &changes, &by_request.proposals)?;
+        Ok(History {
+            carried,
+            requests: Vec::new(alloc),
+            changes,
+            by_change,
+            by_request,
+            settlings,
+        })
+    }
+
     /// The history once more, in memory of its own.
     pub fn copy(&self, alloc: Global) -> Result<Self, AllocError>
         ensures { IfOk result (λ copy. copy ≡ self.now) }
     {
         Ok(History {
+            carried: self.carried.copy(alloc)?,
             requests: copy_all(alloc, &self.requests)?,
             changes: copy_all(alloc, &self.changes)?,
             by_change: self.by_change.copy(alloc)?,
@@ -117,11 +144,14 @@ impl History {
         Ok(())
     }
 
-    /// Cuts the history back to its requests up to a seqno. Takes no memory.
+    /// Cuts the history back to its requests up to a seqno, not below its base. Takes no memory.
     pub fn cut(&mut self, to: u64)
         requires rising { IsRising self.old.requests }
-        requires whole { self.old ≡ history self.old.requests }
-        ensures cut { self.new ≡ history (up_to to self.old.requests) }
+        requires whole { (base : Option GovernedRows) ×
+            (self.old ≡ history_over base self.old.requests) × IsBelow base to }
+        ensures cut { (base : Option GovernedRows) →
+            self.old ≡ history_over base self.old.requests → IsBelow base to →
+            self.new ≡ history_over base (up_to to self.old.requests) }
         ensures requests { self.new.requests ≡ up_to to self.old.requests }
     {
         cut_list(&mut self.requests, to);
@@ -210,11 +240,17 @@ impl History {
         &self.by_request.shares
     }
 
+    /// What is carried of the members' signatures.
+    pub(crate) fn carried_signers(&self) -> &[SignedBy]
+        ensures { result.now ≡ self.now.carried.signed }
+    {
+        self.carried.signed.as_slice()
+    }
+
     /// What the requests tell that this member signed, in order.
     #[tactic(auto, unfolding(crate::specs::Index::signed))]
     pub(crate) fn signed(&self, number: u8) -> &[Signed]
         ensures reported { result.now ≡ signed number self.now }
-        ensures alone { self.now.carried.signed ≡ [] }
         ensures leaves { AreLeavesSmall self.now.requests }
     {
         list_at(&self.by_request.signed, number as usize)

@@ -7,9 +7,11 @@ ghost use Rattle.gl_gov_rules.specs.declared.change.Recorded.{Recorded};
 ghost use Rattle.gl_gov_rules.specs.declared.change.Changed.{Changed};
 ghost use Rattle.gl_gov_rules.specs.Governed.{up_to};
 ghost use Rattle.gl_gov_rules.specs.Rising.{IsRising};
-ghost use Rattle.gl_gov_rules.specs.Index.{IsOfChanges, IsOfRequests, IsOfRequest, HasRoomForAdded, HasRoomForNamed};
+ghost use Rattle.gl_gov_rules.specs.History.{Carried, nothing};
+ghost use Rattle.gl_gov_rules.specs.Index.{IsCarriedTo, IsOfChanges, IsOfRequests, IsOfRequest, HasRoomForAdded, HasRoomForNamed};
 
-use crate::ballots::{push_answer, reserve_answer};
+use crate::ballots::{carried_ballots, push_answer, reserve_answer};
+use crate::carried::Carried;
 use crate::change::{Ballot, Changed, Proposal, Recorded, RecordedNode};
 use crate::members::{member_named, named_count, removed_count};
 use crate::nodes::{push_nodes_recorded, retirement_count, trust_count};
@@ -163,7 +165,7 @@ impl Added {
 impl ByRequest {
     /// What no request tells.
     pub(crate) fn new(alloc: Global) -> Self
-        ensures { IsOfRequests [] result }
+        ensures { IsOfRequests nothing [] result }
     {
         ByRequest {
             nodes: Vec::new(alloc),
@@ -175,10 +177,25 @@ impl ByRequest {
         }
     }
 
+    /// What is carried, before the first request.
+    pub(crate) fn of_carried(alloc: Global, carried: &Carried) -> Result<Self, AllocError>
+        ensures { IfOk result (λ told. IsOfRequests carried.now [] told) }
+    {
+        Ok(ByRequest {
+            nodes: copy_all(alloc, carried.nodes.as_slice())?,
+            marks: Vec::from_slice(alloc, carried.marks.as_slice())?,
+            shares: Vec::from_slice(alloc, carried.shares.as_slice())?,
+            proposals: copy_all(alloc, carried.proposals.as_slice())?,
+            signed: Vec::new(alloc),
+            ballots: carried_ballots(alloc, carried.ballots.as_slice())?,
+        })
+    }
+
     /// The same once more, in memory of its own.
     pub(crate) fn copy(&self, alloc: Global) -> Result<Self, AllocError>
         ensures { IfOk result (λ copy.
-            (rs : List Recorded) → IsOfRequests rs self.now → IsOfRequests rs copy) }
+            (k : Carried) (rs : List Recorded) →
+            IsOfRequests k rs self.now → IsOfRequests k rs copy) }
     {
         Ok(ByRequest {
             nodes: copy_all(alloc, &self.nodes)?,
@@ -198,7 +215,8 @@ impl ByRequest {
         request: &GovernanceRequest,
     ) -> Result<(), AllocError>
         requires { vec_len self.old.ballots.lists ≤ vec_len self.old.ballots.ids }
-        ensures same { (rs : List Recorded) → IsOfRequests rs self.old → IsOfRequests rs self.new }
+        ensures same { (k : Carried) (rs : List Recorded) →
+            IsOfRequests k rs self.old → IsOfRequests k rs self.new }
         ensures room { OnOk result (HasRoomForAdded self.new added.now request.now) }
     {
         self.nodes.reserve(added.nodes.len())?;
@@ -213,8 +231,8 @@ impl ByRequest {
     pub(crate) fn push(&mut self, added: Added, recorded: &Recorded)
         requires room { HasRoomForAdded self.old added recorded.now.request }
         requires reported { IsOfRequest recorded.now.seqno recorded.now.request added }
-        ensures { (rs : List Recorded) →
-            IsOfRequests rs self.old → IsOfRequests (rs ++ recorded.now ∷ []) self.new }
+        ensures { (k : Carried) (rs : List Recorded) →
+            IsOfRequests k rs self.old → IsOfRequests k (rs ++ recorded.now ∷ []) self.new }
     {
         let seqno = recorded.seqno;
         append_reserved(&mut self.nodes, added.nodes);
@@ -225,10 +243,11 @@ impl ByRequest {
         push_answer(&mut self.ballots, seqno, &recorded.request);
     }
 
-    /// Cuts it back to what the requests up to a seqno tell.
+    /// Cuts it back to what is carried and what the requests up to a seqno tell, where all that is
+    /// carried stands up to it.
     pub(crate) fn cut(&mut self, to: u64)
-        ensures { (rs : List Recorded) →
-            IsRising rs → IsOfRequests rs self.old → IsOfRequests (up_to to rs) self.new }
+        ensures { (k : Carried) (rs : List Recorded) → IsCarriedTo to k → IsRising rs →
+            IsOfRequests k rs self.old → IsOfRequests k (up_to to rs) self.new }
     {
         cut_list(&mut self.nodes, to);
         cut_list(&mut self.marks, to);

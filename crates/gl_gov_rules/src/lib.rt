@@ -14,9 +14,12 @@ pub use leaf::leaf_of;
 pub use node_law::law_of_nodes;
 pub use proposals::is_ballot;
 pub use refusal::{Cause, GovernanceRefusal, MemberStatus, NodeStatus};
-pub use row::{MemberRow, NodeRow, ProposalRow, ServiceRow, Vote};
+pub use row::{
+    GovernedRows, MemberRow, NodeRow, ProposalAt, ProposalRow, RuleAt, ServiceRow, Vote,
+};
 
 mod ballots;
+mod carried;
 mod change;
 mod copy;
 mod cut;
@@ -32,5 +35,6 @@ mod proposals;
 mod refusal;
 mod request_facts;
 mod row;
+mod row_changes;
 mod service;
 mod settlings;

@@ -1,8 +1,10 @@
 //! Who the members are and were, and the status of each.
 
-ghost use Rattle.std.specs.Prelude.{◌≡◌, ◌≤◌, count_by, is_some};
+ghost use Rattle.std.specs.Prelude.{◌≡◌, ◌≤◌, count_by, find, is_some};
+ghost use Rattle.std.specs.List.{list_any};
 ghost use Rattle.std.specs.Option.{option_copied};
 ghost use Rattle.gl_gov_rules.specs.declared.change.Changed as a_change;
+ghost use Rattle.gl_gov_rules.specs.declared.request_facts.Signed as a_signed;
 ghost use Rattle.gl_gov_rules.specs.Members.{member_named};
 ghost use Rattle.gl_gov_rules.specs.RequestFacts.{removed_in};
 ghost use Rattle.gl_gov_rules.specs.Index.{last_leaf};
@@ -45,18 +47,19 @@ pub(crate) fn removed_count(changes: &[Changed]) -> usize
         .count()
 }
 
-/// 1 plus the leaf of the last of these, 0 without one.
-fn last_leaf(signed: &[Signed]) -> u32
-    ensures { result ≡ last_leaf signed.now }
+/// 1 plus the leaf of the last of these, or what is carried without one.
+fn last_leaf(carried: u32, signed: &[Signed]) -> u32
+    ensures { result ≡ last_leaf carried signed.now }
 {
     match signed.last() {
-        None => 0,
+        None => carried,
         Some(signed) => signed.next_leaf,
     }
 }
 
 impl History {
-    ghost use Rattle.gl_gov_rules.specs.Members.{member, is_removed, has_acked, member_status, is_present, is_active, present_count, active_count, next_leaf};
+    ghost use Rattle.gl_gov_rules.specs.Members.{member, is_removed, is_signer, is_acked_by, has_acked, member_status, is_present, is_active, present_count, active_count, leaf_carried, next_leaf};
+    ghost use Rattle.gl_gov_rules.specs.Index.{signed, HasSmallLeaves};
 
     /// The member with this number, if there ever was one.
     #[tactic(auto, unfolding(crate::specs::Members::member))]
@@ -73,11 +76,28 @@ impl History {
         self.removed().iter().any(|other| *other == number)
     }
 
+    /// Whether the member's Ack is carried.
+    fn is_ack_carried(&self, number: u8) -> bool
+        ensures { result ≡ list_any (is_acked_by number) self.now.carried.signed }
+    {
+        self.carried_signers()
+            .iter()
+            .any(|signer| signer.member == number && signer.is_ack)
+    }
+
+    /// Whether a request is the member's Ack.
+    fn is_ack_signed(&self, number: u8) -> bool
+        ensures { result ≡ list_any (λ (s : a_signed.Signed). s.is_ack) (signed number self.now) }
+    {
+        self.signed(number).iter().any(|signed| signed.is_ack)
+    }
+
     /// Whether the member's Ack stands.
+    #[tactic(auto, using(crate::proofs::HistoryIndex::acked_is))]
     pub fn has_acked(&self, number: u8) -> bool
         ensures { result ≡ has_acked self.now number }
     {
-        self.signed(number).iter().any(|signed| signed.is_ack)
+        self.is_ack_carried(number) || self.is_ack_signed(number)
     }
 
     /// The member's status.
@@ -132,11 +152,26 @@ impl History {
             .count()
     }
 
-    /// 1 plus the leaf of the last request that the member signed, 0 without one.
+    /// 1 plus the leaf of the last request that the member signed, as it is carried.
+    fn leaf_carried(&self, number: u8) -> u32
+        ensures { result ≡ leaf_carried (find (is_signer number) self.now.carried.signed) }
+    {
+        match self
+            .carried_signers()
+            .iter()
+            .find(|signer| signer.member == number)
+        {
+            None => 0,
+            Some(signer) => signer.next_leaf,
+        }
+    }
+
+    /// 1 plus the leaf of the last request that the member signed, 0 without one. Behind a base it
+    /// is what the member's row tells, until the member signs a request.
     pub fn next_leaf(&self, number: u8) -> u32
         ensures leaf { result ≡ next_leaf self.now number }
-        ensures range { result ≤ 1024 }
+        ensures range { HasSmallLeaves self.now.carried → result ≤ 1024 }
     {
-        last_leaf(self.signed(number))
+        last_leaf(self.leaf_carried(number), self.signed(number))
     }
 }

@@ -133,7 +133,7 @@ impl History {
         }
     }
 
-    /// The seqno of the entry that marked a node, if one did.
+    /// The seqno of the entry that marked a node, if one did; that of the base where it is carried.
     pub fn mark(&self, id: &NodeId) -> Option<u64>
         ensures { result ≡ mark self.now id.now }
     {

@@ -3,7 +3,10 @@
 use crate::change::ProposalState;
 use crate::refusal::{MemberStatus, NodeStatus};
 use gl_base::{Bytes, Sequence};
-use gl_requests::{Action, HssPublicKey, LmsPublicKey, NodeId, ServiceState};
+use gl_requests::{
+    Action, Dealing, Digest, HssPublicKey, LmsPublicKey, NodeId, Rule, ServiceState,
+};
+use gl_shares::Share;
 
 /// A member's ballot on a proposal.
 #[derive(Clone, Copy, Debug, PartialEq, Eq)]
@@ -58,4 +61,34 @@ pub struct ProposalRow {
     pub actions: Sequence<Action>,
     /// Ascending by member.
     pub ballots: Sequence<Vote>,
+}
+
+/// A proposal's row under its identifier.
+#[derive(Debug, Drop)]
+pub struct ProposalAt {
+    /// The digest of the request that made it.
+    pub id: Digest,
+    pub row: ProposalRow,
+}
+
+/// A rule of the constitution under the number of its action.
+#[derive(Clone, Copy, Debug)]
+pub struct RuleAt {
+    pub number: u8,
+    pub rule: Rule,
+}
+
+/// The rows of governance as values, after the entry with a seqno.
+#[derive(Debug, Drop)]
+pub struct GovernedRows {
+    pub seqno: u64,
+    pub service: Option<ServiceRow>,
+    pub members: Sequence<MemberRow>,
+    /// In the order of their numbers.
+    pub nodes: Sequence<NodeRow>,
+    pub proposals: Sequence<ProposalAt>,
+    pub rules: Sequence<RuleAt>,
+    pub dealing: Option<Dealing>,
+    /// The shares that members gave since they were last cleared.
+    pub shares: Sequence<Share>,
 }

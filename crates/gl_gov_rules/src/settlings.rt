@@ -1,12 +1,13 @@
 //! The first change that settles each proposal.
 
-ghost use Rattle.std.specs.Prelude.{◌≡◌, ◌+◌, ◌≤◌, ◌++◌, List, map, take, length, slice_get, option_map, vec_len, vec_capacity};
+ghost use Rattle.std.specs.Prelude.{◌≡◌, ◌+◌, ◌≤◌, ◌++◌, List, map, take, length, slice_get, option_map, vec_len, vec_capacity, IfOk};
 ghost use Rattle.std.specs.Option.{option_or, option_to_list};
 ghost use Rattle.gl_gov_rules.specs.declared.change.Changed as a_change;
 ghost use Rattle.gl_gov_rules.specs.Proposals.{settling_in, settled_state, settling_up_to};
 
 use crate::change::{Changed, Proposal, ProposalState, Settling};
 use crate::proposals::state_settled;
+use std::alloc::{AllocError, Global};
 
 /// The first of these changes that settles the proposal.
 #[tactic(auto, unfolding(crate::specs::Proposals::settling_in))]
@@ -20,6 +21,22 @@ pub(crate) fn settling_in(changes: &[Changed], proposal: &Proposal) -> Option<Se
         }
     }
     None
+}
+
+/// What settles each of the proposals.
+pub(crate) fn settlings_of(
+    alloc: Global,
+    changes: &[Changed],
+    proposals: &[Proposal],
+) -> Result<Vec<Option<Settling>>, AllocError>
+    ensures { IfOk result (λ settlings.
+        settlings.items ≡ map (settling_in changes.now) proposals.now) }
+{
+    let mut settlings = Vec::new(alloc);
+    for proposal in proposals {
+        settlings.push(settling_in(changes, proposal))?;
+    }
+    Ok(settlings)
 }
 
 /// The state of a proposal that is settled so, open where it isn't.

@@ -140,7 +140,7 @@ module _ (layers : Layers) (ledger : List Entry) (sound : IsSound layers ledger)
           (governed_more (requests_of (take i ledger)) r all (follows_at i e bytes at is stands))
       go (content.Application bytes) is stands = quiet (subst IsNoGovernance (sym is) tt)
       go (content.Signature s) is stands = quiet (subst IsNoGovernance (sym is) tt)
-      go (content.Evidence d) is stands = absurd stands
+      go (content.Evidence d) is stands = quiet (subst IsNoGovernance (sym is) tt)
 
   -- so do those of the first entries, however many
   upto : (n : ℕ) → rules.IsGoverned (requests_of (take n ledger))

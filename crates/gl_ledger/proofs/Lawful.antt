@@ -1,6 +1,8 @@
 -- The ledger has the laws of a book: what is made was tried by the rules.
-use Rattle.std.proofs.Common.{◌≡◌, ◌⊎◌, inl, inr, ⊎_elim, ℕ, ◌+◌, List, [], ◌∷◌, ◌++◌, length, take, Option, Some, None, Result, Ok, Err, Bool, true, false, ◌||◌, refl, sym, ◌∙◌, ap, subst, if◌then◌else◌, nat_lt}
+use Rattle.std.proofs.Common.{◌≡◌, ◌⊎◌, inl, inr, ⊎_elim, ℕ, zero, suc, ◌+◌, ◌-◌, ◌<◌, List, [], ◌∷◌, ◌++◌, length, take, Option, Some, None, Result, Ok, Err, Bool, true, false, ◌||◌, refl, sym, ◌∙◌, ap, subst, if◌then◌else◌, nat_lt, option_map, slice_get, arith, length-take}
+use Rattle.gl_base.proofs.Lists.{slice_get-of_take, slice_get-within}
 use Rattle.gl_base.specs.TxId.{last_seqno}
+use Rattle.gl_rules.specs.Log.{entry_at}
 use Rattle.gl_rules.specs.Identity.{NodeId}
 use Rattle.gl_rules.specs.Safety.{IsLawful, EachFollows, Makes, MarksNone, KeepsPlaces}
 use Rattle.gl_rules.proofs.Soundness.{sound_cut, sound_push}
@@ -26,19 +28,20 @@ use Rattle.gl_ledger.specs.Layers.{Layers}
 use Rattle.gl_ledger.specs.NodeKeys.{NodeKeys}
 use Rattle.gl_ledger.specs.declared.recording.Recording.{Recording}
 use Rattle.gl_ledger.specs.declared.recording.Recording.TheVariants as recordings
-use Rattle.gl_ledger.specs.Recordings.{requests_of, removal, mark, recording_of}
+use Rattle.gl_ledger.specs.Recordings.{last_entry, requests_of, removal, mark, recording_of}
 use Rattle.gl_ledger.specs.declared.breach.Broken.{Broken}
-use Rattle.gl_ledger.specs.Past.{past_of}
+use Rattle.gl_ledger.specs.Past.{Past, is_signed, last_of, past_of}
+use Rattle.gl_snapshot_body.specs.Body as snapshots
 use Rattle.gl_ledger.specs.Broken.{broken, broken_by}
 use Rattle.gl_ledger.specs.declared.response.Response.{Response}
 use Rattle.gl_ledger.specs.declared.response.Response.TheVariants.{Replied}
 use Rattle.gl_ledger.specs.declared.response.Rejection.{Rejection}
-use Rattle.gl_ledger.specs.declared.response.Rejection.TheVariants.{Unencodable, Founding}
-use Rattle.gl_ledger.specs.Makers.{with_reply, request_result, by_store, unless_refused, unless_broken, unless_empty, guarded, governance_made, govern_result, signed_entry, signing_result}
+use Rattle.gl_ledger.specs.declared.response.Rejection.TheVariants.{Unencodable, NotAfterSignature, Founding}
+use Rattle.gl_ledger.specs.Makers.{with_reply, request_result, by_store, unless_refused, unless_broken, unless_empty, guarded, governance_made, govern_result, signed_entry, signing_result, evidence_entry, evidence_result}
 use Rattle.gl_ledger.specs.LedgerBook.{ServiceBook, marked_node, by_rule, ledger_book}
 use Rattle.gl_ledger.proofs.Applications.{execute_ok}
 use Rattle.gl_ledger.proofs.Growth.{IsNoGovernance}
-use Rattle.gl_ledger.proofs.Passing.{passing}
+use Rattle.gl_ledger.proofs.Passing.{passed, passing}
 use Rattle.gl_ledger.proofs.Bases.{weaker_from}
 use Rattle.gl_ledger.proofs.RequestEncodings.{request_in-read}
 use Rattle.gl_ledger.proofs.Gathering.{requests-more}
@@ -191,11 +194,37 @@ module _ (layers : Layers) (keys : NodeKeys) where
       ⊎_elim (λ (old : mark ledger y ≡ Some seqno). inl old) (λ (new : (seqno ≡ length ledger + 1) × (g ≡ requests.Mark y)). inr (ap marked_node new.1))
       (mark_by ledger e g y seqno (governed_records ledger view g e is.0 is.1) m)
 
-  -- for now no evidence entry follows
-  no_evidence : (ledger : List Entry) (e : Entry) → broken layers ledger e ≡ None → is_evidence e.content ≡ true → ⊥
-  no_evidence ledger e h d = let p = passing layers ledger e h in go e.content refl d p.recording p.reads p.rest
+  -- what an evidence makes is its entry
+  evidence_ok : (p : Past) (view : ℕ) (e : Entry) → evidence_result p view ≡ Ok e → e ≡ evidence_entry p view
+  evidence_ok p view e h = go (is_signed p.last) (nat_lt snapshots.snapshot_limit size) (nat_lt p.len last_seqno) h
     where
-      go : (c : Content) → e.content ≡ c → is_evidence c ≡ true → (t : Recording) → recording_of e.content ≡ Some t → broken_by layers t (past_of ledger) e ≡ None → ⊥
+      size : ℕ
+      size = length (snapshots.body_bytes p.snapshot)
+
+      made : Entry
+      made = evidence_entry p view
+
+      go : (a b c : Bool) → (if a then by_store (if b then Err (refusals.TooLarge size) else (if c then Ok made else Err refusals.SeqnoLimit)) else Err NotAfterSignature) ≡ Ok e → e ≡ made
+      go false b c w = absurd (cc)
+      go true true c w = absurd (cc)
+      go true false false w = absurd (cc)
+      go true false true w = let p : made ≡ e = cc in sym p
+
+  evident_lawful : (ledger : List Entry) (view : ℕ) (e : Entry) → EachFollows book ledger →
+      book.evidence ledger view ≡ Ok e → Makes book (EachFollows book) ledger view e × (book.is_signature e ≡ false) × MarksNone book ledger e
+  evident_lawful ledger view e z h =
+      let one = guarded_ok (λ (made : Entry). made) ledger (evidence_result (past_of ledger) view) e h in
+      let is = evidence_ok (past_of ledger) view e one.0 in (
+        makes ledger view e z (ap (λ (f : Entry). f.view) is) one.1,
+        ap (λ (f : Entry). is_signature f.content) is,
+        mark_quiet ledger e (subst (λ (f : Entry). IsNoGovernance f.content) (sym is) tt),
+      )
+
+  -- an evidence entry stands right after a signature
+  after_signature : (ledger : List Entry) (e : Entry) → broken layers ledger e ≡ None → is_evidence e.content ≡ true → is_signed (past_of ledger).last ≡ true
+  after_signature ledger e h d = let p = passing layers ledger e h in go e.content refl d p.recording p.reads p.rest
+    where
+      go : (c : Content) → e.content ≡ c → is_evidence c ≡ true → (t : Recording) → recording_of e.content ≡ Some t → broken_by layers t (past_of ledger) e ≡ None → is_signed (past_of ledger).last ≡ true
       go (content.Governance b) is w t r s = absurd (cc)
       go (content.Application b) is w t r s = absurd (cc)
       go (content.Signature b) is w t r s = absurd (cc)
@@ -203,7 +232,23 @@ module _ (layers : Layers) (keys : NodeKeys) where
           let k : Some (recordings.Evidence b) ≡ Some t = sym (ap recording_of is) ∙ r in
           let same : recordings.Evidence b ≡ t = cc in
           let none : broken_by layers (recordings.Evidence b) (past_of ledger) e ≡ None = ap (λ (u : Recording). broken_by layers u (past_of ledger) e) same ∙ s in
-          absurd (cc)
+          (passed (is_signed (past_of ledger).last) _ _ none).0
+
+  last_of_take : (log : List Entry) (seqno : ℕ) → seqno < length log → (f : Entry) → last_entry (take seqno log) ≡ Some f → entry_at log seqno ≡ Some f
+  last_of_take log zero h f is = absurd (cc)
+  last_of_take log (suc i) h f is =
+      let long : length (take (suc i) log) - 1 ≡ i = omega (arith, length-take (suc i) log) in
+      (slice_get-of_take (suc i) log i f (ap (slice_get (take (suc i) log)) (sym long) ∙ is)).1
+
+  signed_last : (o : Option Entry) → is_signed (option_map last_of o) ≡ true → (f : Entry) × (o ≡ Some f) × (is_signature f.content ≡ true)
+  signed_last None h = absurd (cc)
+  signed_last (Some f) h = (f, refl, h)
+
+  witnessed : (log : List Entry) (seqno : ℕ) (e : Entry) → EachFollows book log → slice_get log seqno ≡ Some e → is_evidence e.content ≡ true →
+      (f : Entry) × (entry_at log seqno ≡ Some f) × (is_signature f.content ≡ true)
+  witnessed log seqno e z a d =
+      let f = signed_last (last_entry (take seqno log)) (after_signature (take seqno log) e (unbroken (take seqno log) e (z seqno e a)) d) in
+      (f.0, last_of_take log seqno (slice_get-within log seqno e a) f.0 f.1, f.2)
 
   -- removals and marks stand where they came
   removals : KeepsPlaces book (EachFollows book) removal
@@ -226,11 +271,11 @@ module _ (layers : Layers) (keys : NodeKeys) where
     executed = λ log view q e a z v h. executed_lawful log view q e a z h;
     governed = λ log view g e a z v h. governed_lawful log view g e a z h;
     signed = λ x leaf log view commit e z v c h. signed_lawful x leaf log view commit e z h;
-    evident = λ log view e z v h. absurd (cc);
+    evident = λ log view e z v h. evident_lawful log view e z h;
     taken = λ log e z f. sound_push book log e z f;
     weaker = λ log e base f. ap by_rule (weaker_from layers base log e (unbroken log e f));
     cut = λ log seqno z. sound_cut book log seqno z;
-    witnessed = λ log seqno e z a d. absurd (no_evidence (take seqno log) e (unbroken (take seqno log) e (z seqno e a)) d);
+    witnessed = λ log seqno e z a d. witnessed log seqno e z a d;
     removals = removals;
     markings = markings;
     marked = λ log e y z h. marked layers log e y (followed layers keys (log ++ e ∷ []) z) h;

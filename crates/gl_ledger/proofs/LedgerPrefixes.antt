@@ -45,7 +45,7 @@ module _ (layers : Layers) (ledger : List Entry) (sound : IsSound layers ledger)
       by (content.Application bytes) is stands =
           quiet (subst IsNoGovernance (sym is) tt) (subst (λ (ws : List Write). AllByRecursion IsOutside ws) (sym stands.writes) (run_outside stands.request (tables_of before) stands.ran stands.runs))
       by (content.Signature s) is stands = quiet (subst IsNoGovernance (sym is) tt) (subst (λ (ws : List Write). AllByRecursion IsOutside ws) (sym stands.writes) tt)
-      by (content.Evidence d) is stands = absurd stands
+      by (content.Evidence d) is stands = quiet (subst IsNoGovernance (sym is) tt) (subst (λ (ws : List Write). AllByRecursion IsOutside ws) (sym stands.writes) tt)
 
   -- so they are in each prefix of the ledger
   governed_prefix : (n : ℕ) → HasGovernedTables (take n ledger)

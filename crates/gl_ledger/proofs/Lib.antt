@@ -25,6 +25,7 @@ pub mod Configurations
 pub mod Lawful
 pub mod Retiring
 pub mod MadeEntries
+pub mod EvidenceEntries
 pub mod Governing
 pub mod Valid
 pub mod Commits

@@ -58,10 +58,10 @@ use Rattle.gl_vmaps.proofs.SameValues.{same_bytes_self}
 use Rattle.gl_ledger.proofs.Passing.{passes, passing_all}
 use Rattle.gl_ledger.proofs.RequestEncodings.{request_in-read}
 
-itself : (n : ℕ) → (n == n) ≡ true
+pub itself : (n : ℕ) → (n == n) ≡ true
 itself n = grind (arith, nat_tests)
 
-within : (n : ℕ) → n < last_seqno → nat_le (n + 1) last_seqno ≡ true
+pub within : (n : ℕ) → n < last_seqno → nat_le (n + 1) last_seqno ≡ true
 within n h = grind (arith, nat_tests)
 
 -- what an entry records of a node's signature, of whatever bytes
@@ -69,12 +69,12 @@ abbrev pub signature_with : NodeId → List ℕ → List Entry → ℕ → signa
 signature_with x bytes ledger commit = record { node = x; commit = commit; root = root_of (leaves_of ledger); signature = bytes }
 
 module _ (layers : Layers) (keys : NodeKeys) (ledger : List Entry) (view : ℕ) (m : MayMake ledger view) where
-  in_view : (t : Recording) → is_recovering t ≡ false → is_next_view (past_of ledger).last t view ≡ true
+  pub in_view : (t : Recording) → is_recovering t ≡ false → is_next_view (past_of ledger).last t view ≡ true
   in_view t again =
       ap (λ (o : Option Entry). is_next_view (option_map last_of o) t view) m.is_last ∙ ap (λ (b : Bool). if b then view == m.last.view + 1 else nat_le m.last.view view) again
       ∙ (let h = m.up in grind (arith, nat_tests))
 
-  in_order : (t : Recording) → is_founding t ≡ false → is_recovering t ≡ false → is_in_order (past_of ledger).last t view ≡ true
+  pub in_order : (t : Recording) → is_founding t ≡ false → is_recovering t ≡ false → is_in_order (past_of ledger).last t view ≡ true
   in_order t other again =
       ap (λ (o : Option Entry). is_in_order (option_map last_of o) t view) m.is_last
       ∙ and_from (not (is_founding t) && (not (is_recovering t) || is_signature m.last.content)) (not (begins m.last) || (is_signing t && (view == m.last.view)))

@@ -19,7 +19,7 @@ use Rattle.gl_ledger.specs.Makers.{MakesValid, signature_after, signed_entry}
 use Rattle.gl_ledger.proofs.Roots.{root_is_digest}
 use Rattle.gl_ledger.proofs.Entries.{is_entry-from_fields, length-body_bytes}
 
-digest_length : (xs : List ℕ) → is_digest xs ≡ true → length xs ≡ 32
+pub digest_length : (xs : List ℕ) → is_digest xs ≡ true → length xs ≡ 32
 digest_length xs h = let both = and_parts (length xs == 32) (are_bytes xs) h in grind (arith, nat_tests, both.0)
 
 -- a signature of whatever bytes, so many that the body has room for them

@@ -47,9 +47,11 @@ use Rattle.gl_ledger.specs.declared.recording.Recording.{Recording}
 use Rattle.gl_ledger.specs.declared.recording.Recording.TheVariants as recordings
 use Rattle.gl_ledger.specs.Recordings.{governance_recording, application_recording, is_founding, is_recovering, records_founding, records_recovery, is_signing, last_entry, recording_of, founds, recovers, begins, requests_of, recorded_nodes}
 use Rattle.gl_ledger.specs.declared.breach.Broken.{Broken}
-use Rattle.gl_ledger.specs.Past.{last_of, past_of}
+use Rattle.gl_ledger.specs.Past.{is_signed, last_of, past_of, signs_at}
+use Rattle.gl_ledger.specs.Snapshot.{snapshot_bytes}
+use Rattle.gl_snapshot_body.specs.Body.{snapshot_limit}
 use Rattle.gl_ledger.specs.Broken.{is_next_view, is_in_order, are_same_writes, broken_in_state, unless_refused, broken_by_fault, may_record, fault_of_signature, broken_by, broken}
-use Rattle.gl_ledger.specs.Sound.{IsFounded, IsGovernanceEntry, IsApplicationEntry, IsSignatureEntry, StandsAs, HasGovernedTables, IsSound}
+use Rattle.gl_ledger.specs.Sound.{IsFounded, IsGovernanceEntry, IsApplicationEntry, IsEvidenceEntry, IsSignatureEntry, StandsAs, HasGovernedTables, IsSound}
 use Rattle.gl_ledger.proofs.TablesLaws.{tables_of-push}
 use Rattle.gl_ledger.proofs.Growth.{IsOutside, IsNoGovernance, untouched, in_order-push}
 use Rattle.gl_ledger.proofs.Applications.{run_outside}
@@ -82,6 +84,14 @@ wrote_all_local t u (w ∷ ws) map h = wrote_all_local (wrote t w) (wrote u w) w
 -- ---- one more entry
 
 -- a view that is next isn't below the one before it
+le_true : (a b : ℕ) → nat_le a b ≡ true → a ≤ b
+le_true a b is = grind (arith, nat_tests)
+
+-- a signature stands last where the last entry is one
+signed_last : (o : Option Entry) → is_signed (option_map last_of o) ≡ true → signs_at o ≡ true
+signed_last None h = absurd (cc)
+signed_last (Some f) h = h
+
 next_up : (again : Bool) (before view : ℕ) → (if again then view == before + 1 else nat_le before view) ≡ true → before ≤ view
 next_up true before view w = let u : view ≡ before + 1 = grind (arith, nat_tests, w) in omega (arith, u)
 next_up false before view w = grind (arith, nat_tests, w)
@@ -176,6 +186,23 @@ module _ (layers : Layers) (ledger : List Entry) (e : Entry) (sound : IsSound la
       valid None w = refl
       valid (Some fault) w = absurd (cc)
 
+  evidence : (d : List ℕ) → e.content ≡ content.Evidence d → Stands
+  evidence d is =
+      let h = rest_of (recordings.Evidence d) (ap recording_of is) in
+      let one = passed (is_signed (past_of ledger).last) _ _ h in
+      let two = passed (nat_le (length (snapshot_bytes ledger)) snapshot_limit) _ _ one.1 in
+      let three = passed (same_bytes d (sha256 (snapshot_bytes ledger))) _ None two.1 in
+      let writes : e.writes ≡ [] = none_written e.writes (sym (ap (λ (x : Bool). x || are_no_writes e.writes) (ap may_write is)) ∙ fits.writes) in
+      let stands : IsEvidenceEntry ledger e d = record {
+        writes = writes;
+        claims = none_claimed e.claims (sym (ap (λ (x : Bool). x || is_no_digest e.claims) (ap may_claim is)) ∙ fits.claims);
+        signed = signed_last (last_entry ledger) one.0;
+        within = le_true (length (snapshot_bytes ledger)) snapshot_limit two.0;
+        digest = same_bytes_is d (sha256 (snapshot_bytes ledger)) three.0;
+      } in
+      quietly (subst IsNoGovernance (sym is) tt) (subst (λ (ws : List Write). AllByRecursion IsOutside ws) (sym writes) tt)
+      (subst (λ (c : Content). StandsAs layers c ledger e) (sym is) stands)
+
   governance : (bytes : List ℕ) (g : GovernanceRequest) → e.content ≡ content.Governance bytes → request_in bytes ≡ Some g → Stands
   governance bytes g is reads =
       let one = accepted (refusal (history before) (length ledger + 1) g) _ (rest_of (recordings.Governance g) (ap recording_of is ∙ ap governance_recording reads)) in
@@ -214,7 +241,7 @@ module _ (layers : Layers) (ledger : List Entry) (e : Entry) (sound : IsSound la
 
   stands_by : (c : Content) → e.content ≡ c → Stands
   stands_by (content.Signature s) is = signature s is
-  stands_by (content.Evidence d) is = absurd (let h = rest_of (recordings.Evidence d) (ap recording_of is) in cc)
+  stands_by (content.Evidence d) is = evidence d is
   stands_by (content.Application bytes) is = go (request_of bytes) refl
     where
       go : (r : Result (List Operation) CodeFault) → request_of bytes ≡ r → Stands

@@ -1,14 +1,15 @@
 -- The audit of a ledger, and the check of an opening ledger: the rules, entry by entry.
-use Rattle.std.specs.Prelude.{◌≡◌, ℕ, suc, ◌+◌, ◌-◌, ◌<◌, List, [], ◌∷◌, ◌++◌, Option, None, Some, Result, Ok, Err, Bool, true, false, length, take, slice_get}
+use Rattle.std.specs.Prelude.{◌≡◌, ℕ, zero, suc, ◌+◌, ◌-◌, ◌<◌, List, [], ◌∷◌, ◌++◌, Option, None, Some, Result, Ok, Err, Bool, true, false, length, take, slice_get}
 use Rattle.gl_rules.specs.Identity.{NodeId}
 use Rattle.gl_entry.specs.declared.entry.Content.{Content}
 use Rattle.gl_entry.specs.declared.entry.Content.TheVariants as content
 use Rattle.gl_entry.specs.declared.entry.Entry.{Entry}
+use Rattle.gl_snapshot_body.specs.declared.body.Body.{Body}
 use Rattle.gl_ledger.specs.Layers.{Layers}
 use Rattle.gl_ledger.specs.Recordings.{last_entry}
 use Rattle.gl_ledger.specs.declared.breach.Broken.{Broken}
 use Rattle.gl_ledger.specs.Past.{is_unopened}
-use Rattle.gl_ledger.specs.Broken.{broken}
+use Rattle.gl_ledger.specs.Broken.{broken, broken_over}
 
 -- The seqno of an entry that breaks a rule, and the rule.
 pub record LedgerFault : Type 0 where
@@ -45,6 +46,22 @@ module _ (layers : Layers) where
   -- ledger has none; that it founds no service is for the audit of a file to say.
   unfoldable pub audited : List Entry → Option LedgerFault
   audited ledger = fault_from [] ledger
+
+  -- The same of entries behind a base.
+  abbrev pub fault_behind : Body → List Entry → List Entry → Option LedgerFault
+  fault_behind body before [] = None
+  fault_behind body before (e ∷ es) =
+      fault_or (body.base + length before + 1) (broken_over layers body before e)
+      (fault_behind body (before ++ e ∷ []) es)
+
+  abbrev pub audited_at : ℕ → Body → List Entry → Option LedgerFault
+  audited_at zero body es = audited es
+  audited_at (suc before) body es = fault_behind body [] es
+
+  -- The first of the entries behind a base that breaks a rule, if one does. Where the base is 0
+  -- they are a whole ledger.
+  abbrev pub audited_over : Body → List Entry → Option LedgerFault
+  audited_over body es = audited_at body.base body es
 
   -- What a fault tells: the entries before it break no rule, and the one at its seqno breaks this
   -- one.

@@ -1,6 +1,6 @@
--- The rules of the audit, and the first of them that an entry breaks, by what is read of the entries
--- before it. A ledger is valid where no entry of it breaks one after those before it. A node
--- refuses an entry from another node for the same answer.
+-- The rules of the audit, and the first of them that an entry breaks, by what is read of the
+-- entries before it. A ledger is valid where no entry of it breaks one after those before it. A
+-- node refuses an entry from another node for the same answer.
 use Rattle.std.specs.Prelude.{ℕ, zero, suc, ◌+◌, List, [], ◌∷◌, ◌++◌, Option, None, Some, Result, Ok, Err, Bool, true, false, not, ◌&&◌, ◌||◌, ◌==◌, nat_le, length, if◌then◌else◌}
 use Rattle.std.specs.List.{list_all, flat_map}
 use Rattle.sha2.specs.Sha256.{sha256}
@@ -10,6 +10,7 @@ use Rattle.gl_base.specs.TxId.{last_seqno}
 use Rattle.gl_hss.specs.declared.fault.HssFault.{HssFault}
 use Rattle.gl_rules.specs.Identity.{NodeId, member}
 use Rattle.gl_rules.specs.World.{first_view}
+use Rattle.gl_vmaps.specs.Changes.{changes}
 use Rattle.gl_vmaps.specs.declared.write.Write.{Write}
 use Rattle.gl_tx.specs.Request.{reply_bytes}
 use Rattle.gl_tx.specs.Run.{run}
@@ -18,6 +19,8 @@ use Rattle.gl_tx.specs.declared.request.Operation.{Operation}
 use Rattle.gl_tx.specs.declared.runs.Ran.{Ran}
 use Rattle.gl_tx.specs.declared.abort.Abort.{Abort}
 use Rattle.gl_entry.specs.Entry.{no_digest, is_entry, body_bytes, write_bytes}
+use Rattle.gl_snapshot_body.specs.Body as snapshots
+use Rattle.gl_snapshot_body.specs.declared.body.Body.{Body}
 use Rattle.gl_entry.specs.SignedMessage.{signed_message}
 use Rattle.gl_entry.specs.declared.entry.Content.TheVariants as content
 use Rattle.gl_entry.specs.declared.entry.Entry.{Entry}
@@ -26,14 +29,14 @@ use Rattle.gl_requests.specs.declared.genesis.ServiceState.{ServiceState}
 use Rattle.gl_requests.specs.declared.genesis.ServiceState.TheVariants.{Open}
 use Rattle.gl_requests.specs.declared.request.GovernanceRequest.{GovernanceRequest}
 use Rattle.gl_gov_rules.specs.declared.refusal.GovernanceRefusal.{GovernanceRefusal}
-use Rattle.gl_gov_rules.specs.Changes.{history}
+use Rattle.gl_gov_rules.specs.declared.change.Recorded.{Recorded}
 use Rattle.gl_gov_rules.specs.Refusals.{refusal}
-use Rattle.gl_gov_rules.specs.Rows.{effect_writes}
+use Rattle.gl_gov_rules.specs.Rows.{rows}
 use Rattle.gl_ledger.specs.ServiceRow.{service_state, identity_in}
 use Rattle.gl_ledger.specs.declared.breach.Broken.{Broken}
 use Rattle.gl_ledger.specs.declared.breach.EntryRefusal.TheVariants as refusals
 use Rattle.gl_ledger.specs.Layers.{Layers}
-use Rattle.gl_ledger.specs.Past.{Last, Past, is_begun, past_of, past_from}
+use Rattle.gl_ledger.specs.Past.{Last, Past, is_begun, is_signed, past_of, past_from, past_behind}
 use Rattle.gl_ledger.specs.declared.recording.Recording.{Recording}
 use Rattle.gl_ledger.specs.declared.recording.Recording.TheVariants as recordings
 use Rattle.gl_ledger.specs.Recordings.{is_founding, is_recovering, is_signing, recording_of, removal, mark}
@@ -117,13 +120,17 @@ abbrev pub unless_refused : Option GovernanceRefusal → Option Broken → Optio
 unless_refused None rest = rest
 unless_refused (Some why) rest = Some (record { rule = 7; refusal = refusals.Governance why })
 
+-- What a request writes: it turns the rows of governance into those with it.
+abbrev pub effect_after : Past → Recorded → List Write
+effect_after p r = changes (rows p.history) (rows (p.after r))
+
 -- A request is accepted, and the entry has the write set of its effect, which turns the rows of the
 -- requests before it into the rows with it.
 abbrev pub broken_by_governance : GovernanceRequest → Past → Entry → Option Broken
 broken_by_governance g p e =
     let seqno = p.len + 1 in
-    unless_refused (refusal (history p.requests) seqno g) (
-    with_writes 8 seqno (effect_writes p.requests (record { seqno = seqno; request = g })) e None
+    unless_refused (refusal p.history seqno g) (
+    with_writes 8 seqno (effect_after p (record { seqno = seqno; request = g })) e None
     )
 
 -- Rules 9 to 11: a signature
@@ -154,6 +161,19 @@ abbrev pub may_record : Past → ℕ → Bool
 may_record p commit =
     if is_begun p.last then commit == p.len + 1 else is_later_commit p commit
 
+-- Rule 12: an evidence
+
+-- A signature stands last, and the digest is that of the body of a snapshot of all entries, which
+-- is within its limit.
+abbrev pub broken_by_evidence : List ℕ → Past → Entry → Option Broken
+broken_by_evidence d p e =
+    let seqno = p.len + 1 in
+    let bytes = snapshots.body_bytes p.snapshot in
+    required (is_signed p.last) (breach 12 seqno e) (
+    required (nat_le (length bytes) snapshots.snapshot_limit) (breach 12 seqno e) (
+    required (same_bytes d (sha256 bytes)) (replay 12 seqno (sha256 bytes) d) None
+    ))
+
 module _ (layers : Layers) where
   -- Why the signature of an entry isn't valid, under the identity in force.
   abbrev pub fault_of_signature : Past → Entry → signatures.Signature → Option HssFault
@@ -172,12 +192,12 @@ module _ (layers : Layers) where
 
   -- All rules
 
-  -- Rules 5 to 12, by what the entry records. For now no evidence entry may follow.
+  -- Rules 5 to 12, by what the entry records.
   abbrev pub broken_by : Recording → Past → Entry → Option Broken
   broken_by (recordings.Application q) p e = broken_by_application q p e
   broken_by (recordings.Governance g) p e = broken_by_governance g p e
   broken_by (recordings.Signature s) p e = broken_by_signature s p e
-  broken_by (recordings.Evidence d) p e = Some (breach 12 (p.len + 1) e)
+  broken_by (recordings.Evidence d) p e = broken_by_evidence d p e
 
   abbrev pub broken_where : Option Recording → Past → Entry → Option Broken
   broken_where None p e = Some (breach 1 (p.len + 1) e)
@@ -204,3 +224,12 @@ module _ (layers : Layers) where
   abbrev pub broken_from : ℕ → List Entry → Entry → Option Broken
   broken_from zero ledger e = broken ledger e
   broken_from (suc before) ledger e = broken_after (past_from (suc before) ledger) e
+
+  -- The first rule that an entry breaks after entries behind a base, if it breaks one. Where the
+  -- base is 0 they are a whole ledger.
+  abbrev pub broken_at : ℕ → Body → List Entry → Entry → Option Broken
+  broken_at zero body es e = broken es e
+  broken_at (suc before) body es e = broken_after (past_behind body es) e
+
+  abbrev pub broken_over : Body → List Entry → Entry → Option Broken
+  broken_over body es e = broken_at body.base body es e

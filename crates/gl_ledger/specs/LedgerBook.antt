@@ -1,6 +1,6 @@
 -- The ledger of a service as the book that the rules of consensus read. Whatever it makes is tried
 -- by the rules of the audit, and refused where it breaks one.
-use Rattle.std.specs.Prelude.{List, Option, None, Some, Err}
+use Rattle.std.specs.Prelude.{List, Option, None, Some}
 use Rattle.gl_rules.specs.Identity.{NodeId}
 use Rattle.gl_rules.specs.Book.{Book}
 use Rattle.gl_tx.specs.declared.request.Operation.{Operation}
@@ -17,11 +17,12 @@ use Rattle.gl_ledger.specs.Recordings.{requests_of, recorded_nodes, configuratio
 use Rattle.gl_ledger.specs.declared.breach.Broken.{Broken}
 use Rattle.gl_ledger.specs.declared.response.Reads.{Reads}
 use Rattle.gl_ledger.specs.declared.refusal.Refusal.TheVariants as refusals
+use Rattle.gl_ledger.specs.Past.{past_of}
 use Rattle.gl_ledger.specs.Broken.{broken_from}
 use Rattle.gl_ledger.specs.declared.response.Response.{Response}
 use Rattle.gl_ledger.specs.declared.response.Rejection.{Rejection}
-use Rattle.gl_ledger.specs.declared.response.Rejection.TheVariants.{ByStore, NoEvidenceYet, ByRule}
-use Rattle.gl_ledger.specs.Makers.{guarded, request_result, govern_result, unless_empty, signing_result}
+use Rattle.gl_ledger.specs.declared.response.Rejection.TheVariants.{ByStore, ByRule}
+use Rattle.gl_ledger.specs.Makers.{guarded, request_result, govern_result, unless_empty, signing_result, evidence_result}
 
 -- The node that a request marks.
 abbrev pub marked_node : GovernanceRequest → Option NodeId
@@ -58,7 +59,8 @@ ledger_book layers keys = record {
   sign = λ x leaf ledger view commit.
       guarded layers (λ made. made) ledger
       (unless_empty ledger (signing_result keys x leaf ledger view commit));
-  evidence = λ ledger view. guarded layers (λ made. made) ledger (Err NoEvidenceYet);
+  evidence = λ ledger view.
+      guarded layers (λ made. made) ledger (evidence_result (past_of ledger) view);
   marked_node = marked_node;
   mark_refusal = λ ledger x.
       by_refusal (governance.mark_refusal (history (requests_of ledger)) x);

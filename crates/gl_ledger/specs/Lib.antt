@@ -6,6 +6,7 @@ pub mod Signed
 pub mod Layers
 pub mod NodeKeys
 pub mod Recordings
+pub mod Snapshot
 pub mod Past
 pub mod Broken
 pub mod Sound

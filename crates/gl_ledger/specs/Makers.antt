@@ -1,14 +1,18 @@
 -- The entries that a ledger makes of requests of applications and of governance, and of signatures;
 -- and where one may be made.
-use Rattle.std.specs.Prelude.{◌≡◌, ◌≤◌, ◌^◌, ℕ, ◌+◌, List, [], ◌∷◌, ◌++◌, Option, None, Some, Result, Ok, Err, true, false, ◌||◌, length, if◌then◌else◌}
+use Rattle.std.specs.Prelude.{◌≡◌, ◌≤◌, ◌^◌, ℕ, ◌+◌, List, [], ◌∷◌, ◌++◌, Option, None, Some, Result, Ok, Err, true, false, ◌||◌, nat_lt, length, if◌then◌else◌}
+use Rattle.sha2.specs.Sha256.{sha256}
 use Rattle.gl_base.specs.Bytes.{are_bytes}
+use Rattle.gl_base.specs.TxId.{last_seqno}
 use Rattle.gl_merkle.specs.Tree.{root_of}
 use Rattle.gl_rules.specs.Identity.{NodeId}
 use Rattle.gl_rules.specs.World.{first_view}
 use Rattle.gl_tx.specs.Request.{is_request}
 use Rattle.gl_tx.specs.declared.request.Operation.{Operation}
 use Rattle.gl_tx.specs.declared.request.Answer.{Answer}
-use Rattle.gl_entry.specs.Entry.{body_bytes}
+use Rattle.gl_entry.specs.Entry.{no_digest, body_bytes}
+use Rattle.gl_entry.specs.declared.entry.Content.TheVariants as content
+use Rattle.gl_snapshot_body.specs.Body as snapshots
 use Rattle.gl_entry.specs.declared.entry.Entry.{Entry}
 use Rattle.gl_entry.specs.declared.entry.Signature as signatures
 use Rattle.gl_requests.specs.Ranges as ranges
@@ -31,8 +35,8 @@ use Rattle.gl_ledger.specs.declared.breach.Broken.{Broken}
 use Rattle.gl_ledger.specs.declared.response.Response.{Response}
 use Rattle.gl_ledger.specs.declared.response.Response.TheVariants.{Replied, Governed}
 use Rattle.gl_ledger.specs.declared.response.Rejection.{Rejection}
-use Rattle.gl_ledger.specs.declared.response.Rejection.TheVariants.{ByStore, Unencodable, NoEntry, Founding, ByRule}
-use Rattle.gl_ledger.specs.Past.{is_unopened, past_of}
+use Rattle.gl_ledger.specs.declared.response.Rejection.TheVariants.{ByStore, Unencodable, NoEntry, NotAfterSignature, Founding, ByRule}
+use Rattle.gl_ledger.specs.Past.{Past, is_signed, is_unopened, past_of}
 use Rattle.gl_ledger.specs.Broken.{fault_of_signature, broken}
 
 abbrev pub with_reply : Result (Entry × List Answer) Refusal → Result (Entry × Response) Rejection
@@ -109,6 +113,30 @@ module _ (layers : Layers) where
   guarded entry_of ledger (Ok made) = unless_broken (broken layers ledger (entry_of made)) made
   guarded entry_of ledger (Err why) = Err why
 
+-- The entry of an evidence: the digest of the body of a snapshot of all entries before it.
+abbrev pub evidence_entry : Past → ℕ → Entry
+evidence_entry p view = record {
+  view = view;
+  seqno = p.len + 1;
+  content = content.Evidence (sha256 (snapshots.body_bytes p.snapshot));
+  writes = [];
+  claims = no_digest;
+}
+
+-- What was made, unless a body of so many bytes is above the limit of snapshots.
+abbrev pub within_snapshot : {X : Type 0} → ℕ → Result X Refusal → Result X Refusal
+within_snapshot size made =
+    if nat_lt snapshots.snapshot_limit size then Err (refusals.TooLarge size) else made
+
+-- What an evidence makes: right after a signature its entry, unless the body is too large or no
+-- seqno is left.
+abbrev pub evidence_result : Past → ℕ → Result Entry Rejection
+evidence_result p view =
+    if is_signed p.last
+    then by_store (within_snapshot (length (snapshots.body_bytes p.snapshot))
+    (if nat_lt p.len last_seqno then Ok (evidence_entry p view) else Err refusals.SeqnoLimit))
+    else Err NotAfterSignature
+
 module _ (keys : NodeKeys) where
   -- The signature of a node after a ledger, with one of its leaves, which records this commit. It
   -- has the endorsement that stands in the node's own row of the ledger.
@@ -145,6 +173,7 @@ pub record MakesValid (layers : Layers) (keys : NodeKeys) (x : NodeId) (leaf : �
     (ledger : List Entry) (view commit : ℕ) : Type 0 where
   pub bytes : are_bytes (signature_after keys x leaf ledger view commit) ≡ true
   pub short : length (signature_after keys x leaf ledger view commit) ≤ 2 ^ 16
-  pub valid : fault_of_signature layers (past_of ledger) (signed_entry keys x leaf ledger view commit)
+  pub valid : fault_of_signature layers (past_of ledger)
+      (signed_entry keys x leaf ledger view commit)
       (signature_made keys x leaf ledger view commit)
       ≡ None

@@ -1,6 +1,7 @@
 -- What the rules of the audit read of the entries before one: of a whole ledger, and of a ledger
 -- whose first entries came by a snapshot.
-use Rattle.std.specs.Prelude.{ℕ, List, [], ◌∷◌, Option, None, Some, Bool, false, ◌&&◌, ◌||◌, nat_lt, nat_le, length, option_map}
+use Rattle.std.specs.Prelude.{ℕ, zero, suc, ◌+◌, ◌-◌, List, [], ◌∷◌, ◌++◌, Option, None, Some, Bool, true, false, ◌&&◌, ◌||◌, nat_lt, nat_le, length, map, option_map, ◌==◌, if◌then◌else◌}
+use Rattle.gl_merkle.specs.Peaks.{root_of_peaks}
 use Rattle.gl_merkle.specs.Tree.{root_of}
 use Rattle.gl_rules.specs.Identity.{NodeId}
 use Rattle.gl_rules.specs.Log.{entry_at, seqno_with_first}
@@ -9,9 +10,16 @@ use Rattle.gl_entry.specs.Entry.{is_signature}
 use Rattle.gl_entry.specs.declared.entry.Content.{Content}
 use Rattle.gl_entry.specs.declared.entry.Content.TheVariants as content
 use Rattle.gl_entry.specs.declared.entry.Entry.{Entry}
+use Rattle.gl_gov_rules.specs.Changes.{history}
+use Rattle.gl_gov_rules.specs.GovernedRows.{history_over}
+use Rattle.gl_gov_rules.specs.History.{History}
+use Rattle.gl_gov_rules.specs.Nodes as nodes
 use Rattle.gl_gov_rules.specs.declared.change.Recorded.{Recorded}
+use Rattle.gl_gov_rules.specs.declared.change.RecordedNode.{RecordedNode}
+use Rattle.gl_snapshot_body.specs.declared.body.Body.{Body}
 use Rattle.gl_ledger.specs.Tree.{tables_of, leaves_of}
 use Rattle.gl_ledger.specs.Recordings.{begins, last_entry, requests_of, recorded_nodes, removal, mark}
+use Rattle.gl_ledger.specs.Snapshot.{governed_base, tables_over, all_peaks, requests_over, snapshot_over, snapshot_of}
 
 abbrev pub signs_at : Option Entry → Bool
 signs_at None = false
@@ -51,6 +59,11 @@ abbrev pub is_begun : Option Last → Bool
 is_begun None = false
 is_begun (Some last) = last.begins
 
+-- A signature stands last.
+abbrev pub is_signed : Option Last → Bool
+is_signed None = false
+is_signed (Some last) = last.signs
+
 abbrev pub is_unopened : Option Entry → Bool
 is_unopened last = is_begun (option_map last_of last)
 
@@ -60,9 +73,10 @@ pub record Past : Type 0 where
   pub len : ℕ
   pub last : Option Last
   pub tables : Tables
-  -- the requests of governance that they record, and of the nodes that these record the seqnos of
-  -- removals and marks
-  pub requests : List Recorded
+  -- the history of governance, and it with one more request; and of the nodes that it records the
+  -- seqnos of removals and marks
+  pub history : History
+  pub after : Recorded → History
   pub nodes : List NodeId
   pub removal : NodeId → Option ℕ
   pub mark : NodeId → Option ℕ
@@ -72,6 +86,8 @@ pub record Past : Type 0 where
   pub signs_at : ℕ → Bool
   pub last_signed : ℕ
   pub last_commit : ℕ
+  -- the body of a snapshot of them
+  pub snapshot : Body
 
 -- Of a ledger.
 abbrev pub past_of : List Entry → Past
@@ -79,7 +95,8 @@ past_of ledger = record {
   len = length ledger;
   last = option_map last_of (last_entry ledger);
   tables = tables_of ledger;
-  requests = requests_of ledger;
+  history = history (requests_of ledger);
+  after = λ r. history (requests_of ledger ++ r ∷ []);
   nodes = recorded_nodes ledger;
   removal = removal ledger;
   mark = mark ledger;
@@ -87,6 +104,7 @@ past_of ledger = record {
   signs_at = λ seqno. signs_at (entry_at ledger seqno);
   last_signed = last_signed ledger;
   last_commit = last_commit ledger;
+  snapshot = snapshot_of ledger;
 }
 
 -- Of a ledger as a node reads it that has its entries up to a base from a snapshot, and so can't
@@ -96,3 +114,45 @@ past_from base ledger = record (past_of ledger) {
   signs_at = λ seqno.
       (nat_lt 0 seqno && nat_le seqno base) || signs_at (entry_at ledger seqno);
 }
+
+-- Of entries behind a base that is above 0, of which this body tells.
+module _ (body : Body) where
+  -- The entry at the base is a signature. It begins nothing.
+  abbrev pub last_or_base : Option Entry → Last
+  last_or_base None = record { view = body.view; signs = true; begins = false }
+  last_or_base (Some e) = last_of e
+
+  -- Each seqno up to the base counts as a signature's.
+  abbrev pub signs_over : List Entry → ℕ → Bool
+  signs_over es seqno =
+      (nat_lt 0 seqno && nat_le seqno body.base) || signs_at (entry_at es (seqno - body.base))
+
+  abbrev pub last_signed_over : List Entry → ℕ
+  last_signed_over es = if last_signed es == 0 then body.base else body.base + last_signed es
+
+  abbrev pub past_behind : List Entry → Past
+  past_behind es =
+      let now = history_over (governed_base body) (requests_over body es) in
+      record {
+        len = body.base + length es;
+        last = Some (last_or_base (last_entry es));
+        tables = tables_over body es;
+        history = now;
+        after = λ r. history_over (governed_base body) (requests_over body es ++ r ∷ []);
+        nodes = map (λ (n : RecordedNode). n.id) (nodes.nodes now);
+        removal = nodes.removal now;
+        mark = nodes.mark now;
+        root = root_of_peaks (all_peaks body es);
+        signs_at = signs_over es;
+        last_signed = last_signed_over es;
+        last_commit = commit_from body.commit es;
+        snapshot = snapshot_over body es;
+      }
+
+-- Of entries behind a base; where it is 0 they are the whole ledger.
+abbrev pub past_at : ℕ → Body → List Entry → Past
+past_at zero body es = past_of es
+past_at (suc before) body es = past_behind body es
+
+abbrev pub past_over : Body → List Entry → Past
+past_over body es = past_at body.base body es

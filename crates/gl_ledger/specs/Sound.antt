@@ -1,5 +1,5 @@
 -- What is said of each ledger of a service.
-use Rattle.std.specs.Prelude.{◌≡◌, ℕ, suc, ◌+◌, List, [], ◌∷◌, ◌++◌, None, Some, Ok, true, false, length, take, slice_get}
+use Rattle.std.specs.Prelude.{◌≡◌, ℕ, suc, ◌+◌, List, [], ◌∷◌, ◌++◌, ◌≤◌, None, Some, Ok, true, false, length, take, slice_get}
 use Rattle.sha2.specs.Sha256.{sha256}
 use Rattle.gl_merkle.specs.Tree.{root_of}
 use Rattle.gl_rules.specs.Identity.{member}
@@ -27,8 +27,10 @@ use Rattle.gl_ledger.specs.Tree.{tables_of, leaves_of}
 use Rattle.gl_ledger.specs.Serial.{IsLedger}
 use Rattle.gl_vmaps.specs.Changes.{Turns}
 use Rattle.gl_ledger.specs.Layers.{Layers}
-use Rattle.gl_ledger.specs.Recordings.{founds, recovers, begins, requests_of, recorded_nodes}
-use Rattle.gl_ledger.specs.Past.{past_of}
+use Rattle.gl_ledger.specs.Recordings.{founds, recovers, begins, last_entry, requests_of, recorded_nodes}
+use Rattle.gl_ledger.specs.Past.{signs_at, past_of}
+use Rattle.gl_ledger.specs.Snapshot.{snapshot_bytes}
+use Rattle.gl_snapshot_body.specs.Body.{snapshot_limit}
 use Rattle.gl_ledger.specs.Broken.{may_record, fault_of_signature}
 
 -- The first entry founds the service, in the first view, and no other does. A recovery, which
@@ -79,6 +81,15 @@ HasGovernedTables ledger =
     (map : List ℕ) → is_governance map ≡ true →
     tables_of ledger map ≡ effect (requests_of ledger) map
 
+-- An evidence entry stands right after a signature, writes nothing, and has the digest of the body
+-- of a snapshot of all entries before it.
+pub record IsEvidenceEntry (before : List Entry) (e : Entry) (d : List ℕ) : Type 0 where
+  pub writes : e.writes ≡ []
+  pub claims : e.claims ≡ no_digest
+  pub signed : signs_at (last_entry before) ≡ true
+  pub within : length (snapshot_bytes before) ≤ snapshot_limit
+  pub digest : d ≡ sha256 (snapshot_bytes before)
+
 module _ (layers : Layers) where
   -- A signature entry writes nothing. It is the valid signature of a recorded node, over the root
   -- of the tree of all earlier entries, and records a commit that it may record.
@@ -91,13 +102,12 @@ module _ (layers : Layers) where
     pub commit : may_record (past_of before) s.commit ≡ true
     pub valid : fault_of_signature layers (past_of before) e s ≡ None
 
-  -- The entry is what its content says it is, after the ledger before it. For now there is no
-  -- evidence entry.
+  -- The entry is what its content says it is, after the ledger before it.
   abbrev pub StandsAs : Content → List Entry → Entry → Type 0
   StandsAs (content.Governance bytes) before e = IsGovernanceEntry before e bytes
   StandsAs (content.Application bytes) before e = IsApplicationEntry before e bytes
   StandsAs (content.Signature s) before e = IsSignatureEntry before e s
-  StandsAs (content.Evidence d) before e = ⊥
+  StandsAs (content.Evidence d) before e = IsEvidenceEntry before e d
 
   -- A ledger is one serial run: each entry is what it says after the entries before it, and after
   -- no others.

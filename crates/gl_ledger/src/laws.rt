@@ -27,10 +27,10 @@ ghost use Rattle.gl_ledger.specs.Tree.{tables_of};
 ghost use Rattle.gl_ledger.specs.Ledger.{genesis_entry};
 ghost use Rattle.gl_ledger.specs.Layers.{Layers};
 ghost use Rattle.gl_ledger.specs.Recordings.{configuration, endorsement_in, key_in, recorded_nodes, requests_of, trusted_nodes};
-ghost use Rattle.gl_ledger.specs.Past.{last_commit};
+ghost use Rattle.gl_ledger.specs.Past.{last_commit, past_of};
 ghost use Rattle.gl_ledger.specs.Broken.{broken};
 ghost use Rattle.gl_ledger.specs.Sound.{IsSound, IsUnrecovered};
-ghost use Rattle.gl_ledger.specs.Makers.{MayMake, MakesValid, govern_result, opening_of, request_result, signing_result};
+ghost use Rattle.gl_ledger.specs.Makers.{MayMake, MakesValid, evidence_result, govern_result, opening_of, request_result, signing_result};
 ghost use Rattle.gl_ledger.specs.LedgerBook.{ledger_book};
 ghost use Rattle.gl_ledger.specs.Audit.{LedgerFault, IsFaultOf, audited, opened};
 ghost use Rattle.gl_ledger.specs.NodeKeys.{IsNodeKey, IsSignedBy, NodeKeys, leaf_count, node_signature, node_signature_fault, service_layers};
@@ -119,9 +119,9 @@ pub fn is_opened()
         endorsement_in (genesis_entry g ∷ es) (node_id node) ≡ node.endorsement }
 {}
 
-/// Where an entry may be made, the book refuses no request of an application for a rule of the
-/// audit, after a sound ledger none of governance, and no valid signature of a recorded node with a
-/// commit that the rules of consensus let it record.
+/// Where an entry may be made, the book refuses no request of an application and no evidence for a
+/// rule of the audit, after a sound ledger none of governance, and no valid signature of a recorded
+/// node with a commit that the rules of consensus let it record.
 pub fn is_unguarded()
     ensures executes { (layers : Layers) (keys : NodeKeys) (ledger : List Entry) (view : ℕ) →
         view < 2 ^ 32 → MayMake ledger view → (request : List Operation) →
@@ -137,6 +137,9 @@ pub fn is_unguarded()
         MayRecord (ledger_book layers keys) ledger commit →
         (ledger_book layers keys).sign node leaf ledger view commit
         ≡ signing_result keys node leaf ledger view commit }
+    ensures evident { (layers : Layers) (keys : NodeKeys) (ledger : List Entry) (view : ℕ) →
+        view < 2 ^ 32 → MayMake ledger view →
+        (ledger_book layers keys).evidence ledger view ≡ evidence_result (past_of ledger) view }
 {}
 
 /// A node whose key the service's key endorses signs validly: by the test of signatures, and after

@@ -22,8 +22,9 @@ pub enum Refusal {
     /// The request of governance isn't accepted.
     #[error("the request of governance is refused: {0}")]
     Governance(GovernanceRefusal),
-    /// The entry's body, or else its reply, has so many bytes, which is more than 1 MiB.
-    #[error("{size} bytes are more than 1 MiB")]
+    /// The entry's body, or else its reply, has so many bytes, which is more than 1 MiB; or so many
+    /// are those of a snapshot's body, which is more than 4,000,000,000.
+    #[error("{size} bytes are too many")]
     TooLarge { size: u64 },
     /// No seqno is left that an identifier can name.
     #[error("no seqno is left")]

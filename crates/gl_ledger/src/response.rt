@@ -28,9 +28,9 @@ pub enum Rejection {
     /// There is no entry to sign.
     #[error("there is no entry to sign")]
     NoEntry,
-    /// For now no evidence entry is made.
-    #[error("no evidence is made yet")]
-    NoEvidenceYet,
+    /// Evidence of a snapshot is made right after a signature alone.
+    #[error("no signature stands last")]
+    NotAfterSignature,
     /// A request that founds a service, or recovers it, is no event of a service.
     #[error("the request founds a service")]
     Founding,

@@ -106,10 +106,11 @@ short_fits name node =
     either (is name (codes "timeout")) (gives tt)
     (either (is name (codes "reserve")) (gives tt)
     (either (is name (codes "sign")) (gives tt)
+    (either (is name (codes "evidence")) (gives tt)
     (either (is name (codes "advance")) (gives tt)
     (either (is name (codes "restart")) (gives tt)
     (either (is name (codes "ids")) (gives tt)
-    (either (is name (codes "ledger")) (gives tt) fails))))))
+    (either (is name (codes "ledger")) (gives tt) fails)))))))
 
 node_fits : (ids : List (List ℕ)) (name : List ℕ) (node : ℕ) (rest : Option (List ℕ)) → FitLine (node_line ids name node rest)
 unfolding node_line

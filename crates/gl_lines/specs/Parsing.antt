@@ -29,10 +29,11 @@ short_line name node =
     if is name (codes "timeout") then Ok (lines.Timeout node)
     else (if is name (codes "reserve") then Ok (lines.Reserve node)
     else (if is name (codes "sign") then Ok (lines.Sign node)
+    else (if is name (codes "evidence") then Ok (lines.Evidence node)
     else (if is name (codes "advance") then Ok (lines.Advance node)
     else (if is name (codes "restart") then Ok (lines.Restart node)
     else (if is name (codes "ids") then Ok (lines.Ids node)
-    else (if is name (codes "ledger") then Ok (lines.Ledger node) else Err NoReading))))))
+    else (if is name (codes "ledger") then Ok (lines.Ledger node) else Err NoReading)))))))
 
 -- A command that asks for one more node.
 abbrev pub pair_line : List ℕ → ℕ → ℕ → Result Line LineFault

@@ -69,6 +69,10 @@ pub enum Line {
     Sign {
         node: u128,
     },
+    /// Makes evidence of the snapshot of all entries so far.
+    Evidence {
+        node: u128,
+    },
     /// Sends a node the entries that it lacks.
     Replicate {
         node: u128,

@@ -33,6 +33,8 @@ fn short_line(name: &[u8], node: u128) -> Result<Line, LineFault>
         Ok(Line::Reserve { node })
     } else if name == b"sign".as_slice() {
         Ok(Line::Sign { node })
+    } else if name == b"evidence".as_slice() {
+        Ok(Line::Evidence { node })
     } else if name == b"advance".as_slice() {
         Ok(Line::Advance { node })
     } else if name == b"restart".as_slice() {

@@ -1,19 +1,21 @@
 -- What the calls of a frontier keep of its levels, and what they read from them.
-use Rattle.std.proofs.Common.{◌≡◌, ℕ, zero, suc, ◌+◌, ◌*◌, ◌-◌, ◌/◌, ◌%◌, ◌^◌, ◌<◌, ◌≤◌, List, [], ◌∷◌, ◌++◌, Some, None, length, take, drop, get_or, refl, sym, ap, ◌∙◌, arith, length-append, append_assoc, append-nil, inl, inr, count_ones, is_some, true}
+use Rattle.std.proofs.Common.{◌≡◌, ℕ, zero, suc, ◌+◌, ◌*◌, ◌-◌, ◌/◌, ◌%◌, ◌^◌, ◌<◌, ◌≤◌, List, [], ◌∷◌, ◌++◌, Some, None, length, take, drop, get_or, refl, sym, ap, ◌∙◌, arith, length-append, append_assoc, append-nil, inl, inr, count_ones}
 use Rattle.std.specs.Prelude.{vec_capacity}
 use lib.Count.{ones_step}
 use Rattle.std.proofs.Math.Nat.{pow-suc}
 use Rattle.std.proofs.lemmas.Nat.{ones_le_self}
-use Rattle.std.proofs.lemmas.Bool.{cases_eq, eq-eqb, ne_eqb}
-use Rattle.std.proofs.lemmas.List.{length-map, drop-append-le, drop-take, take_all, length-drop, length-take-le}
+use Rattle.std.proofs.lemmas.Bool.{cases_lt, cases_eq, eq-eqb, ne_eqb}
+use Rattle.std.proofs.lemmas.List.{length-map, drop-append-le, drop-take, take_all, length-drop, length-take-le, take-append-le, take-take}
 use Rattle.gl_merkle.specs.Tree.{root_of}
 use Rattle.gl_merkle.specs.Path.{path_of}
-use Rattle.gl_merkle.specs.Peaks.{peaks_of}
+use Rattle.gl_merkle.specs.Peaks.{peaks_of, peaks_with, peaks_over, root_of_peaks}
 use Rattle.gl_merkle.specs.Levels.{Level, nodes_of, rooms_of, AreSized, AreRoomy, HoldFirst, HasRoom, with_node, cut_to, base_levels, tail_of, steps_of, level_peaks}
 use Rattle.gl_merkle.specs.Frontier.{leaves_above, AreLevels}
-use Rattle.gl_merkle.proofs.TreeLemmas.{root_of-within, path_of-within}
+use Rattle.gl_merkle.proofs.TreeLemmas.{below_pow, path_of-within}
 use Rattle.gl_merkle.proofs.PeakLemmas.{peaks_of-within}
-use Rattle.gl_merkle.proofs.LevelLemmas.{Cover-with_node, AreSized-with_node, Cover-cut_to, AreSized-cut_to, Cover-base_levels, AreSized-base_levels, base_levels-even, base_levels-odd, tail_of-root, tail_of-some, steps_of-path, level_peaks-peaks}
+use Rattle.gl_merkle.proofs.LevelLemmas.{Cover-with_node, AreSized-with_node, Cover-cut_to, AreSized-cut_to, Cover-base_levels, AreSized-base_levels, base_levels-even, base_levels-odd, steps_of-path}
+use Rattle.gl_merkle.proofs.MorePeaks.{peaks_of-more, peaks_over-push, root_of-peaks}
+use Rattle.gl_merkle.proofs.BasePeaks.{level_peaks-kept, level_peaks-cut, level_peaks-push, level_peaks-base, tail_of-peaks}
 
 -- ---- room
 
@@ -94,8 +96,28 @@ take_past (x ∷ xs) ys (suc k) b size le =
 
 -- ---- what the calls keep
 
-pub AreLevels-push : (b : ℕ) (ps : List (List ℕ)) (n m : ℕ) (vs ws : List Level) (x : List ℕ) → AreLevels b ps n m vs → n < m → nodes_of ws ≡ with_node (nodes_of vs) x → rooms_of ws ≡ rooms_of vs → AreLevels b ps (n + 1) m ws
-AreLevels-push b ps n m vs ws x h lt nodes rooms =
+-- what one leaf more leaves of the peaks over a base
+over-push : (b : ℕ) (ps : List (List ℕ)) (n m k : ℕ) (vs : List Level) (x : List ℕ) → AreLevels b ps n m vs → n + 1 < 2 ^ 64 → b ≤ k → k ≤ n + 1 → level_peaks (with_node (nodes_of vs) x) b k ≡ peaks_over b ps (take (k - b) (leaves_above b vs ++ x ∷ []))
+over-push b ps n m k vs x h fits low high =
+    let ls = leaves_above b vs in
+    let count = leaves_above-count b ps n m vs h in
+    let height = length-nodes_of vs ∙ h.height in
+    elim (cases_lt n k) [
+      | inl new ↦ (
+          let two = pow-suc 2 n in
+          let next : k ≡ n + 1 = omega arith in
+          let all = take_all (n - b) ls (omega arith) in
+          let more = take_all (k - b) (ls ++ x ∷ []) (omega (arith, length-append ls (x ∷ []))) in
+          ap (level_peaks (with_node (nodes_of vs) x) b) next
+          ∙ level_peaks-push (nodes_of vs) b n (suc n) x h.sized (rw height fits) (omega (arith, below_pow n))
+          ∙ ap (λ (qs : List (List ℕ)). peaks_with (suc n) n qs x) (h.over n h.from_base (omega arith) ∙ ap (peaks_over b ps) all)
+          ∙ ap (λ c. peaks_with (suc c) c (peaks_over b ps ls) x) (sym count)
+          ∙ sym (peaks_over-push b ps ls x) ∙ ap (peaks_over b ps) (sym more))
+      | inr old ↦ level_peaks-kept (nodes_of vs) b n k x h.sized low old ∙ h.over k low old ∙ ap (peaks_over b ps) (sym (take-append-le (k - b) ls (x ∷ []) (omega arith)))
+    ]
+
+pub AreLevels-push : (b : ℕ) (ps : List (List ℕ)) (n m : ℕ) (vs ws : List Level) (x : List ℕ) → AreLevels b ps n m vs → n < m → m < 2 ^ 64 → nodes_of ws ≡ with_node (nodes_of vs) x → rooms_of ws ≡ rooms_of vs → AreLevels b ps (n + 1) m ws
+AreLevels-push b ps n m vs ws x h lt fits nodes rooms =
     let leaves = leaves_above-push b ps n m vs ws x h nodes in
     let count = leaves_above-count b ps n m vs h in
     record {
@@ -107,6 +129,7 @@ AreLevels-push b ps n m vs ws x h lt nodes rooms =
       cover = λ below size peaks.
           rw (leaves, nodes, ← append_assoc)
           (Cover-with_node (nodes_of vs) b (below ++ leaves_above b vs) x (omega (arith, length-append below (leaves_above b vs), size)) (h.cover below size peaks));
+      over = λ k low high. rw (leaves, nodes) (over-push b ps n m k vs x h (omega arith) low high);
     }
 
 pub AreLevels-cut : (b : ℕ) (ps : List (List ℕ)) (n m k : ℕ) (vs ws : List Level) → AreLevels b ps n m vs → b ≤ k → k ≤ n → nodes_of ws ≡ cut_to b k (nodes_of vs) → rooms_of ws ≡ rooms_of vs → AreLevels b ps k m ws
@@ -120,6 +143,7 @@ AreLevels-cut b ps n m k vs ws h low high nodes rooms =
       roomy = rw rooms h.roomy;
       cover = λ below size peaks.
           rw (leaves, nodes, ← take_past below (leaves_above b vs) k b size low) (Cover-cut_to (nodes_of vs) b k (below ++ leaves_above b vs) low (h.cover below size peaks));
+      over = λ j from to. rw (leaves, nodes, level_peaks-cut (nodes_of vs) b k j from to, take-take (j - b) (k - b) (leaves_above b vs) (omega arith)) (h.over j from (omega arith));
     }
 
 pub AreLevels-room : (b : ℕ) (ps : List (List ℕ)) (n m k : ℕ) (vs ws : List Level) → AreLevels b ps n m vs → n ≤ k → length ws ≡ length vs → nodes_of ws ≡ nodes_of vs → AreRoomy b k (rooms_of ws) → AreLevels b ps n k ws
@@ -131,6 +155,7 @@ AreLevels-room b ps n m k vs ws h le size nodes room =
       sized = rw nodes h.sized;
       roomy = room;
       cover = λ below count peaks. rw nodes (h.cover below count peaks);
+      over = λ j from to. rw nodes (h.over j from to);
     }
 
 pub AreLevels-copy : (b : ℕ) (ps qs : List (List ℕ)) (n m : ℕ) (vs ws : List Level) → AreLevels b ps n m vs → qs ≡ ps → nodes_of ws ≡ nodes_of vs → AreLevels b qs n n ws
@@ -147,8 +172,8 @@ length-base_levels (suc k) b ps =
       | inr odd ↦ rw (ne_eqb _ _ odd) (ap suc (length-base_levels k (b / 2) (take (length ps - 1) ps)))
     ]
 
-pub AreLevels-base : (b : ℕ) (ps qs : List (List ℕ)) (ws : List Level) → b < 2 ^ 64 → qs ≡ ps → nodes_of ws ≡ base_levels 64 b ps → AreLevels b qs b b ws
-AreLevels-base b ps qs ws fits same nodes =
+pub AreLevels-base : (b : ℕ) (ps qs : List (List ℕ)) (ws : List Level) → b < 2 ^ 64 → length ps ≡ count_ones b → qs ≡ ps → nodes_of ws ≡ base_levels 64 b ps → AreLevels b qs b b ws
+AreLevels-base b ps qs ws fits ones same nodes =
     let leaves = leaves_above-base b ps ws nodes in
     let sized : AreSized b b (nodes_of ws) = rw nodes (AreSized-base_levels 64 b ps) in
     record {
@@ -160,6 +185,10 @@ AreLevels-base b ps qs ws fits same nodes =
       cover = λ below size peaks.
           rw (leaves, nodes, append-nil)
           (Cover-base_levels 64 b ps below size fits (sym (peaks_of-within 64 below (omega (arith, size, fits))) ∙ peaks ∙ same));
+      over = λ k low high.
+          let at : k ≡ b = omega arith in
+          let none : b - b ≡ 0 = omega arith in
+          rw (at, none, nodes, same) (level_peaks-base 64 b ps ones fits);
     }
 
 -- ---- what the calls read
@@ -170,19 +199,21 @@ whole_count b ps n m vs below h size =
     let count = leaves_above-count b ps n m vs h in
     omega (arith, length-append below (leaves_above b vs))
 
-pub root-some : (b : ℕ) (ps : List (List ℕ)) (n m : ℕ) (vs : List Level) → AreLevels b ps n m vs → n < 2 ^ 64 → 0 < n → is_some (tail_of (nodes_of vs) b n None) ≡ true
-root-some b ps n m vs h fits some =
-    let height = length-nodes_of vs ∙ h.height in
-    tail_of-some (nodes_of vs) b n None (rw height fits) (inl some)
+-- the peaks over a base of these leaves are those of the whole list
+pub over-whole : (b k : ℕ) (ps below ls : List (List ℕ)) → length below ≡ b → peaks_of below ≡ ps → b ≤ k → peaks_over b ps (take (k - b) ls) ≡ peaks_of (take k (below ++ ls))
+over-whole b k ps below ls size peaks low =
+    rw (take_past below ls k b size low, peaks_of-more below (take (k - b) ls), size, peaks)
 
-pub root-is : (b : ℕ) (ps : List (List ℕ)) (n m : ℕ) (vs : List Level) (below : List (List ℕ)) → AreLevels b ps n m vs → n < 2 ^ 64 → 0 < n → length below ≡ b → peaks_of below ≡ ps → tail_of (nodes_of vs) b n None ≡ Some (root_of (below ++ leaves_above b vs))
-root-is b ps n m vs below h fits some size peaks =
-    let ls = below ++ leaves_above b vs in
+pub root-over : (b : ℕ) (ps : List (List ℕ)) (n m : ℕ) (vs : List Level) → AreLevels b ps n m vs → n < 2 ^ 64 → 0 < n → tail_of (nodes_of vs) b n None ≡ Some (root_of_peaks (peaks_over b ps (leaves_above b vs)))
+root-over b ps n m vs h fits some =
     let height = length-nodes_of vs ∙ h.height in
-    let count = whole_count b ps n m vs below h size in
-    let all : take n ls ++ [] ≡ ls = append-nil (take n ls) ∙ take_all n ls (omega arith) in
-    tail_of-root (nodes_of vs) b n None ls (h.cover below size peaks) h.from_base (omega arith) (rw height fits) (rw all (omega arith)) (rw (all, height) (omega arith))
-    ∙ ap Some (rw (all, height) (sym (root_of-within 64 ls (omega arith))))
+    let count = leaves_above-count b ps n m vs h in
+    tail_of-peaks (nodes_of vs) b n None (rw height fits) (omega arith)
+    ∙ ap (λ (qs : List (List ℕ)). Some (root_of_peaks qs)) (append-nil (level_peaks (nodes_of vs) b n) ∙ h.over n h.from_base (omega arith) ∙ ap (peaks_over b ps) (take_all (n - b) (leaves_above b vs) (omega arith)))
+
+pub root-whole : (b : ℕ) (ps below ls : List (List ℕ)) → length below ≡ b → peaks_of below ≡ ps → root_of_peaks (peaks_over b ps ls) ≡ root_of (below ++ ls)
+root-whole b ps below ls size peaks =
+    rw (root_of-peaks (below ++ ls), peaks_of-more below ls, size, peaks)
 
 pub path-is : (b : ℕ) (ps : List (List ℕ)) (n m i k : ℕ) (vs : List Level) (below : List (List ℕ)) → AreLevels b ps n m vs → k < 2 ^ 64 → b < i → i ≤ k → k ≤ n → length below ≡ b → peaks_of below ≡ ps → steps_of (nodes_of vs) b k (i - 1) None ≡ path_of (take k (below ++ leaves_above b vs)) i
 path-is b ps n m i k vs below h fits low inside high size peaks =
@@ -194,15 +225,6 @@ path-is b ps n m i k vs below h fits low inside high size peaks =
     let place : i - 1 + 1 ≡ i = omega arith in
     steps_of-path (nodes_of vs) b k (i - 1) None ls (h.cover below size peaks) (omega arith) (omega arith) (omega arith) (rw all (omega arith)) (rw (all, height) (omega arith))
     ∙ rw (all, height, place) (sym (path_of-within 64 (take k ls) i (omega arith)))
-
-pub peaks-are : (b : ℕ) (ps : List (List ℕ)) (n m k : ℕ) (vs : List Level) (below : List (List ℕ)) → AreLevels b ps n m vs → k < 2 ^ 64 → b ≤ k → k ≤ n → length below ≡ b → peaks_of below ≡ ps → level_peaks (nodes_of vs) b k ≡ peaks_of (take k (below ++ leaves_above b vs))
-peaks-are b ps n m k vs below h fits low high size peaks =
-    let ls = below ++ leaves_above b vs in
-    let height = length-nodes_of vs ∙ h.height in
-    let count = whole_count b ps n m vs below h size in
-    let some = length-take-le k ls (omega arith) in
-    level_peaks-peaks (nodes_of vs) b k ls (h.cover below size peaks) low (omega arith) (rw height (omega arith))
-    ∙ rw height (sym (peaks_of-within 64 (take k ls) (omega arith)))
 
 length-level_peaks : (rs : List (List (List ℕ))) (b n : ℕ) → n < 2 ^ length rs → length (level_peaks rs b n) ≡ count_ones n
 length-level_peaks [] b n fits =

@@ -1,13 +1,13 @@
 -- The levels of a frontier: what a node more, a cut and a base leave, and what is read from them.
-use Rattle.std.proofs.Common.{◌≡◌, ℕ, zero, suc, ◌+◌, ◌*◌, ◌-◌, ◌/◌, ◌%◌, ◌^◌, ◌<◌, ◌≤◌, true, List, [], ◌∷◌, ◌++◌, Option, Some, None, option_to_list, length, take, drop, get_or, refl, sym, ap, ap₂, ◌∙◌, arith, length-drop, length-append, append-nil, inl, inr, is_some, ◌⊎◌}
+use Rattle.std.proofs.Common.{◌≡◌, ℕ, zero, suc, ◌+◌, ◌*◌, ◌-◌, ◌/◌, ◌%◌, ◌^◌, ◌<◌, ◌≤◌, List, [], ◌∷◌, ◌++◌, Option, Some, None, option_to_list, length, take, drop, get_or, refl, sym, ap, ap₂, ◌∙◌, arith, length-drop, length-append, append-nil, inl, inr}
 use Rattle.std.proofs.Math.Nat.{pow-suc}
 use Rattle.std.proofs.lemmas.Bool.{cases_lt, cases_eq, eq-eqb, ne_eqb, lt-ltb, le-ltb}
 use Rattle.std.proofs.lemmas.List.{length-take-le, get_or-take, get_or-drop, drop-append-le, drop-take, get_or_append_left, get_or_at, take_at}
-use Rattle.gl_merkle.specs.Tree.{inner_of, root_within}
+use Rattle.gl_merkle.specs.Tree.{inner_of}
 use Rattle.gl_merkle.specs.Path.{path_within}
 use Rattle.gl_merkle.specs.Peaks.{peaks_within}
-use Rattle.gl_merkle.specs.Levels.{pairs_of, AreSized, Cover, with_node, cut_to, base_levels, last_node, over_tail, next_tail, tail_of, past_tail, step_at, steps_of, level_peaks}
-use Rattle.gl_merkle.proofs.PairLemmas.{pair_all, length-pairs, length-pair_all, pairs_of-take, root_within-pairs, step_in, path_within-pairs}
+use Rattle.gl_merkle.specs.Levels.{pairs_of, AreSized, Cover, with_node, cut_to, base_levels, last_node, over_tail, next_tail, past_tail, step_at, steps_of}
+use Rattle.gl_merkle.proofs.PairLemmas.{pair_all, length-pairs, length-pair_all, pairs_of-take, step_in, path_within-pairs}
 use Rattle.gl_merkle.proofs.PeakLemmas.{unpaired-even, unpaired-odd, drop-unpaired, peaks_within-pairs}
 
 -- ---- one node more
@@ -167,22 +167,6 @@ pub pair_all-level : (r ls : List (List ℕ)) (b n : ℕ) (t : Option (List ℕ)
 pair_all-level r ls b n t e low high =
     pair_all-tail (take n ls) t ∙ ap₂ (λ a c. a ++ option_to_list c) (pairs_of-take n ls) (sym (next_tail-carry r ls b n t e low high))
 
-root_at_end : (ls : List (List ℕ)) (n : ℕ) (t : Option (List ℕ)) → n ≡ 0 → 0 < length (take n ls ++ option_to_list t) → t ≡ Some (root_within 0 (take n ls ++ option_to_list t))
-unfolding root_within
-root_at_end ls n None e some = absurd (let none : length (take n ls ++ []) ≡ 0 = rw e refl in omega arith)
-root_at_end ls n (Some x) e some = rw e
-
-pub tail_of-root : (rs : List (List (List ℕ))) (b n : ℕ) (t : Option (List ℕ)) (ls : List (List ℕ)) → Cover b rs ls → b ≤ n → n ≤ length ls → n < 2 ^ length rs → 0 < length (take n ls ++ option_to_list t) → length (take n ls ++ option_to_list t) ≤ 2 ^ length rs → tail_of rs b n t ≡ Some (root_within (length rs) (take n ls ++ option_to_list t))
-tail_of-root [] b n t ls h low high small some fits = root_at_end ls n t (omega arith) some
-tail_of-root (r ∷ rs) b n t ls h low high small some fits =
-    let two = pow-suc 2 (length rs) in
-    let up = length-pairs ls in
-    let above = length-pair_all (take n ls ++ option_to_list t) in
-    let level = pair_all-level r ls b n t h.0 low high in
-    let size = ap length level in
-    tail_of-root rs (b / 2) (n / 2) (next_tail r b n t) (pairs_of ls) h.1 (omega arith) (omega arith) (omega arith) (omega arith) (omega arith)
-    ∙ ap Some (ap (root_within (length rs)) (sym level) ∙ sym (root_within-pairs (length rs) (take n ls ++ option_to_list t) fits))
-
 length-tail : (ls : List (List ℕ)) (n : ℕ) (t : Option (List ℕ)) → n ≤ length ls → (n ≤ length (take n ls ++ option_to_list t)) × (length (take n ls ++ option_to_list t) ≤ n + 1)
 length-tail ls n None le =
     let size = length-take-le n ls le in
@@ -243,31 +227,3 @@ steps_of-path (r ∷ rs) b n p t ls h low high above within fits =
     let rest = steps_of-path rs (b / 2) (n / 2) (p / 2) (next_tail r b n t) (pairs_of ls) h.1 (omega arith) (omega arith) (omega arith) (omega arith) (omega arith) in
     ap₂ (λ s u. option_to_list s ++ u) here (rest ∙ ap (λ a. path_within (length rs) a (p / 2 + 1)) (sym level))
     ∙ sym (path_within-pairs (length rs) (take n ls ++ option_to_list t) p within fits)
-
-peaks_at_end : (ls : List (List ℕ)) → [] ≡ peaks_within 0 ls
-unfolding peaks_within
-peaks_at_end ls = refl
-
-pub level_peaks-peaks : (rs : List (List (List ℕ))) (b n : ℕ) (ls : List (List ℕ)) → Cover b rs ls → b ≤ n → n ≤ length ls → n < 2 ^ length rs → level_peaks rs b n ≡ peaks_within (length rs) (take n ls)
-level_peaks-peaks [] b n ls h low high small = peaks_at_end (take n ls)
-level_peaks-peaks (r ∷ rs) b n ls h low high small =
-    let two = pow-suc 2 (length rs) in
-    let up = length-pairs ls in
-    let size = length-take-le n ls high in
-    let rest = level_peaks-peaks rs (b / 2) (n / 2) (pairs_of ls) h.1 (omega arith) (omega arith) (omega arith) in
-    let all = peaks_within-pairs (length rs) (take n ls) (omega arith) in
-    let above = ap (peaks_within (length rs)) (pairs_of-take n ls) in
-    elim (cases_eq (n % 2) 0) [
-      | inl even ↦ rw (eq-eqb _ _ even, all, unpaired-even (take n ls) (omega arith), above, rest)
-      | inr odd ↦ rw (ne_eqb _ _ odd, all, unpaired-odd (take n ls) (omega arith), above, rest, last-at_level r ls b n h.0 low high (omega arith))
-    ]
-
--- some tail comes of one leaf or more, whatever the levels hold
-pub tail_of-some : (rs : List (List (List ℕ))) (b n : ℕ) (t : Option (List ℕ)) → n < 2 ^ length rs → (0 < n) ⊎ (is_some t ≡ true) → is_some (tail_of rs b n t) ≡ true
-tail_of-some [] b n t small some = elim some [ inl more ↦ absurd (omega arith) | inr there ↦ there ]
-tail_of-some (r ∷ rs) b n t small some =
-    let two = pow-suc 2 (length rs) in
-    elim (cases_eq (n % 2) 0) [
-      | inl even ↦ rw (eq-eqb _ _ even) (tail_of-some rs (b / 2) (n / 2) t (omega arith) (elim some [ inl more ↦ inl (omega arith) | inr there ↦ inr there ]))
-      | inr odd ↦ rw (ne_eqb _ _ odd) (tail_of-some rs (b / 2) (n / 2) (Some (over_tail (last_node r b n) t)) (omega arith) (inr refl))
-    ]

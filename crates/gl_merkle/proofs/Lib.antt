@@ -8,3 +8,4 @@ pub mod FrontierLemmas
 pub mod ReachLemmas
 pub mod ContentLemmas
 pub mod MorePeaks
+pub mod BasePeaks

@@ -1,5 +1,5 @@
 -- The peaks with more leaves after those that have some peaks.
-use Rattle.std.proofs.Common.{◌≡◌, ℕ, zero, suc, ◌-◌, ◌/◌, ◌%◌, ◌^◌, ◌<◌, List, [], ◌∷◌, ◌++◌, length, take, get_or, refl, sym, ap, ◌∙◌, arith, length-append, append_assoc, append-nil, inl, inr}
+use Rattle.std.proofs.Common.{◌≡◌, ℕ, zero, suc, ◌+◌, ◌-◌, ◌/◌, ◌%◌, ◌^◌, ◌<◌, List, [], ◌∷◌, ◌++◌, length, take, get_or, refl, sym, ap, ◌∙◌, arith, length-append, append_assoc, append-nil, inl, inr}
 use Rattle.std.proofs.Math.Nat.{pow-suc}
 use Rattle.std.proofs.lemmas.Bool.{cases_eq, eq-eqb, ne_eqb}
 use Rattle.gl_merkle.specs.Tree.{inner_of, root_within, root_of}
@@ -12,11 +12,12 @@ use Rattle.gl_merkle.proofs.LevelLemmas.{pairs_of-push_even, pairs_of-push_odd, 
 
 -- ---- one leaf more
 
-peaks_with-even : (h n : ℕ) (ps : List (List ℕ)) (x : List ℕ) → n % 2 ≡ 0 → peaks_with (suc h) n ps x ≡ ps ++ x ∷ []
+pub peaks_with-even : (h n : ℕ) (ps : List (List ℕ)) (x : List ℕ) → n % 2 ≡ 0 → peaks_with h n ps x ≡ ps ++ x ∷ []
 unfolding peaks_with
-peaks_with-even h n ps x even = rw (eq-eqb _ _ even)
+peaks_with-even zero n ps x even = refl
+peaks_with-even (suc h) n ps x even = rw (eq-eqb _ _ even)
 
-peaks_with-odd : (h n : ℕ) (ps : List (List ℕ)) (x : List ℕ) → n % 2 ≡ 1 →
+pub peaks_with-odd : (h n : ℕ) (ps : List (List ℕ)) (x : List ℕ) → n % 2 ≡ 1 →
     peaks_with (suc h) n ps x ≡ peaks_with h (n / 2) (take (length ps - 1) ps) (inner_of (get_or ps (length ps - 1) []) x)
 unfolding peaks_with
 peaks_with-odd h n ps x odd = rw (ne_eqb (n % 2) 0 (λ q. omega arith))
@@ -43,7 +44,7 @@ peaks_within-push (suc h) ls x fits =
     elim (cases_eq (length ls % 2) 0) [
       | inl even ↦ (
           let alone : peaks_within (suc h) ls ≡ peaks_within h (pairs_of ls) = before ∙ rw (unpaired-even ls even) (append-nil (peaks_within h (pairs_of ls))) in
-          peaks_with-even h (length ls) (peaks_within (suc h) ls) x even
+          peaks_with-even (suc h) (length ls) (peaks_within (suc h) ls) x even
           ∙ ap (λ (ps : List (List ℕ)). ps ++ x ∷ []) (alone ∙ sym (peaks_within-low h (pairs_of ls) (omega arith)) ∙ ap (peaks_within (suc h)) (sym (pairs_of-push_even ls x even)))
           ∙ ap (λ (ps : List (List ℕ)). peaks_within (suc h) (pairs_of (ls ++ x ∷ [])) ++ ps) (sym (unpaired-push ls x even))
           ∙ sym after)
@@ -82,6 +83,12 @@ peaks_of-more xs (y ∷ ys) =
     ∙ peaks_of-more (xs ++ y ∷ []) ys
     ∙ ap (λ (n : ℕ). peaks_over n (peaks_of (xs ++ y ∷ [])) ys) one
     ∙ ap (λ (ps : List (List ℕ)). peaks_over (suc (length xs)) ps ys) (peaks_of-push xs y)
+
+pub peaks_over-push : (n : ℕ) (ps xs : List (List ℕ)) (x : List ℕ) → peaks_over n ps (xs ++ x ∷ []) ≡ peaks_with (suc (n + length xs)) (n + length xs) (peaks_over n ps xs) x
+peaks_over-push n ps [] x = let all : n + 0 ≡ n = omega arith in rw all
+peaks_over-push n ps (y ∷ ys) x =
+    let more : n + suc (length ys) ≡ suc n + length ys = omega arith in
+    rw more (peaks_over-push (suc n) (peaks_with (suc n) n ps y) ys x)
 
 -- the root of leaves is that of their peaks, of none too
 pub root_of-peaks : (ls : List (List ℕ)) → root_of ls ≡ root_of_peaks (peaks_of ls)

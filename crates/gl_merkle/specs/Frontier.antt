@@ -1,7 +1,7 @@
 -- What a frontier stands for, and what its calls keep of it.
-use Rattle.std.specs.Prelude.{◌≡◌, ℕ, ◌+◌, ◌%◌, ◌≤◌, List, [], ◌++◌, length, drop, slice_index_or}
-use Rattle.gl_merkle.specs.Peaks.{peaks_of}
-use Rattle.gl_merkle.specs.Levels.{Level, nodes_of, rooms_of, AreSized, AreRoomy, Cover}
+use Rattle.std.specs.Prelude.{◌≡◌, ℕ, ◌+◌, ◌-◌, ◌%◌, ◌≤◌, List, [], ◌++◌, length, take, drop, slice_index_or}
+use Rattle.gl_merkle.specs.Peaks.{peaks_of, peaks_over}
+use Rattle.gl_merkle.specs.Levels.{Level, nodes_of, rooms_of, AreSized, AreRoomy, Cover, level_peaks}
 
 -- A list of leaves: `base` of them are known by their `peaks` alone, greatest first, and after
 -- these stand `leaves`. So many pushes as `spare` says take no memory.
@@ -38,8 +38,9 @@ IsUnchanged old new = HasLeaves old new old.leaves
 abbrev pub leaves_above : ℕ → List Level → List (List ℕ)
 leaves_above b levels = drop (b % 2) (slice_index_or (nodes_of levels) 0 [])
 
--- these levels, over a base of b leaves with these peaks, are those of len leaves, with room for
--- those up to limit
+-- These levels, over a base of b leaves with these peaks, are those of len leaves, with room for
+-- those up to limit. They hold the tree of the leaves, whichever are below the base; and where no
+-- leaves have such peaks, those that follow from them.
 pub record AreLevels (b : ℕ) (peaks : List (List ℕ)) (len limit : ℕ)
     (levels : List Level) : Type 0 where
   pub height : length levels ≡ 64
@@ -49,3 +50,5 @@ pub record AreLevels (b : ℕ) (peaks : List (List ℕ)) (len limit : ℕ)
   pub roomy : AreRoomy b limit (rooms_of levels)
   pub cover : (below : List (List ℕ)) → length below ≡ b → peaks_of below ≡ peaks →
       Cover b (nodes_of levels) (below ++ leaves_above b levels)
+  pub over : (size : ℕ) → b ≤ size → size ≤ len → level_peaks (nodes_of levels) b size
+      ≡ peaks_over b peaks (take (size - b) (leaves_above b levels))

@@ -48,7 +48,7 @@ impl Frontier {
     ghost use Rattle.std.specs.Prelude.{◌≡◌, ℕ, ◌+◌, ◌-◌, ◌<◌, ◌≤◌, [], ◌∷◌, ◌++◌, length, take, IfOk, OnOk, OnErr, IsOk, count_ones};
     ghost use Rattle.gl_merkle.specs.Tree.{root_of};
     ghost use Rattle.gl_merkle.specs.Path.{path_of};
-    ghost use Rattle.gl_merkle.specs.Peaks.{peaks_of};
+    ghost use Rattle.gl_merkle.specs.Peaks.{peaks_of, peaks_over, root_of_peaks};
     ghost use Rattle.gl_merkle.specs.Frontier.{count_of, ForLeaves, HasLeaves, IsUnchanged};
 
     /// A frontier of no leaf.
@@ -129,10 +129,13 @@ impl Frontier {
         Ok(())
     }
 
-    /// The root of the tree over all leaves.
+    /// The root of the tree over all leaves. Over a base it follows from the base's peaks, whether
+    /// or not any leaves have these.
     pub fn root(&self) -> Digest
         requires { 0 < count_of self.now }
-        ensures { ForLeaves self.now (λ leaves. result ≡ root_of leaves) }
+        ensures root { ForLeaves self.now (λ leaves. result ≡ root_of leaves) }
+        ensures over { result
+            ≡ root_of_peaks (peaks_over self.now.base self.now.peaks self.now.leaves) }
     {
         root_of_levels(&self.levels, self.base, self.len).unwrap()
     }
@@ -182,6 +185,8 @@ impl Frontier {
         ensures count { IfOk result (λ peaks. length peaks.items ≡ count_ones size) }
         ensures peaks { IfOk result (λ peaks. ForLeaves self.now (λ leaves.
             peaks.items ≡ peaks_of (take size leaves))) }
+        ensures over { IfOk result (λ peaks. peaks.items ≡ peaks_over self.now.base self.now.peaks
+            (take (size - self.now.base) self.now.leaves)) }
     {
         peaks_of_levels(self.alloc, &self.levels, self.base, size)
     }

@@ -32,13 +32,10 @@ pub fn law_of_collision()
         HaveSameSides s t → climb_of a s ≡ climb_of b t → Collide a s b t }
 {}
 
-/// The root of leaves follows from their peaks, of which there are as many as the number of leaves
-/// has ones in binary.
+/// There are as many peaks as the number of leaves has ones in binary.
 pub fn law_of_peaks()
     ensures count { (leaves : List (List ℕ)) →
         length (peaks_of leaves) ≡ count_ones (length leaves) }
-    ensures root { (leaves : List (List ℕ)) → 0 < length leaves →
-        root_of leaves ≡ root_of_peaks (peaks_of leaves) }
 {}
 
 /// The peaks of leaves with more after them follow from the peaks of the first and how many those

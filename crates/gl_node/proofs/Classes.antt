@@ -17,7 +17,7 @@ use Rattle.gl_node.specs.Changes.{Extends, IsAsKept, IsTurned, MayChange, TakesE
 use Rattle.gl_node.specs.declared.change.Change.{Change}
 use Rattle.gl_node.specs.declared.change.Change.TheVariants as changes
 use Rattle.gl_node.proofs.ElectionSteps.{timeout_turned, request_vote_turned, vote_reply_turned, append_answer_turned, propose_vote_turned, reserve_turned, step_down_kept, replicate_kept, advance_kept}
-use Rattle.gl_node.proofs.Extending.{submit_adds, govern_adds, sign_adds}
+use Rattle.gl_node.proofs.Extending.{submit_adds, govern_adds, sign_adds, evidence_adds}
 
 module _ {Q G R A F : Type 0} where
   abbrev Heard : Book Entry Q G R A F → NodeId → Node Entry → Message → Body → Type 0
@@ -35,10 +35,11 @@ module _ {Q G R A F : Type 0} where
       by (inr (inr (inr r))) = subst (Heard b x n m) (sym r) (propose_vote_turned b x m.from m.view n)
 
 module _ {S Q G R A F : Type 0} (x : NodeId) (e : Event S Q G R A F) where
-  pub brings_entry : ((q : Q) × (e ≡ events.Submit q)) ⊎ (((q : G) × (e ≡ events.Govern q)) ⊎ (e ≡ events.Sign)) → MayChange (rule_of e) x changes.Entry
+  pub brings_entry : ((q : Q) × (e ≡ events.Submit q)) ⊎ (((q : G) × (e ≡ events.Govern q)) ⊎ ((e ≡ events.Sign) ⊎ (e ≡ events.Evidence))) → MayChange (rule_of e) x changes.Entry
   brings_entry (inl r) = subst (λ (v : Event S Q G R A F). MayChange (rule_of v) x changes.Entry) (sym r.1) (λ b n. submit_adds b r.0 n)
   brings_entry (inr (inl r)) = subst (λ (v : Event S Q G R A F). MayChange (rule_of v) x changes.Entry) (sym r.1) (λ b n. govern_adds b r.0 n)
-  brings_entry (inr (inr r)) = subst (λ (v : Event S Q G R A F). MayChange (rule_of v) x changes.Entry) (sym r) (λ b n. sign_adds b x n)
+  brings_entry (inr (inr (inl r))) = subst (λ (v : Event S Q G R A F). MayChange (rule_of v) x changes.Entry) (sym r) (λ b n. sign_adds b x n)
+  brings_entry (inr (inr (inr r))) = subst (λ (v : Event S Q G R A F). MayChange (rule_of v) x changes.Entry) (sym r) (λ b n. evidence_adds b n)
 
   pub turns : (e ≡ events.Timeout) ⊎ (e ≡ events.Reserve) → MayChange (rule_of e) x changes.ElectionStep
   turns (inl r) = subst (λ (v : Event S Q G R A F). MayChange (rule_of v) x changes.ElectionStep) (sym r) (λ b n. timeout_turned b x n)

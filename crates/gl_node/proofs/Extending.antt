@@ -9,7 +9,7 @@ use Rattle.gl_rules.specs.Outcome as outcome
 use Rattle.gl_rules.specs.Log.{entry_at, is_signature_in}
 use Rattle.gl_rules.specs.Configuration.{configurations_above}
 use Rattle.gl_rules.specs.Steps.{as_leader, if_leader}
-use Rattle.gl_rules.specs.Requests.{pending_limit, append_result, execute_request, submit, if_removal_committed, unless_mark_refused, if_markable, govern_as_leader, govern, append_signature, sign_as_leader, sign}
+use Rattle.gl_rules.specs.Requests.{pending_limit, append_result, execute_request, submit, if_removal_committed, unless_mark_refused, if_markable, govern_as_leader, govern, append_signature, sign_as_leader, sign, append_evidence, evidence}
 use Rattle.gl_rules.proofs.Ids.{by_test}
 use Rattle.gl_node.specs.Changes.{Extends, IsExtended}
 
@@ -62,3 +62,11 @@ module _ {Q G R A F : Type 0} (b : Book Entry Q G R A F) where
       go false true m = denies n (outcome.NothingToSign (length n.log))
       go false false (Err why) = denies n (outcome.ByLedger why)
       go false false (Ok e) = λ never. record { entry = e; used = n.used + 1; node = refl }
+
+  pub evidence_adds : (n : Node Entry) → Extends n (evidence b n)
+  unfolding evidence
+  evidence_adds n = led_adds n (append_evidence b n (b.evidence n.log n.view)) (go (b.evidence n.log n.view))
+    where
+      go : (m : Result Entry F) → Adds n (append_evidence b n m)
+      go (Err why) = denies n (outcome.ByLedger why)
+      go (Ok e) = λ never. record { entry = e; used = n.used; node = refl }

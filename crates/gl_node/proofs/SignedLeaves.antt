@@ -12,7 +12,7 @@ use Rattle.gl_rules.specs.Log.{entry_at, is_signature_in}
 use Rattle.gl_rules.specs.Configuration.{configurations_above}
 use Rattle.gl_rules.specs.Replication.{restart}
 use Rattle.gl_rules.specs.Steps.{as_leader, if_leader}
-use Rattle.gl_rules.specs.Requests.{pending_limit, append_result, execute_request, submit, if_removal_committed, unless_mark_refused, if_markable, govern_as_leader, govern, append_signature, sign_as_leader, sign}
+use Rattle.gl_rules.specs.Requests.{pending_limit, append_result, execute_request, submit, if_removal_committed, unless_mark_refused, if_markable, govern_as_leader, govern, append_signature, sign_as_leader, sign, append_evidence, evidence}
 use Rattle.gl_rules.specs.World.{on_message}
 use Rattle.gl_rules.proofs.Ids.{by_test}
 use Rattle.gl_messages.specs.declared.message.Body.{Body}
@@ -107,6 +107,14 @@ module _ {Q G R A F : Type 0} (b : Book Entry Q G R A F) (x : NodeId) where
       go false None = enters_quiet n (b.govern n.log n.view q)
       go false (Some y) = inner y (b.mark_refusal n.log y)
 
+  evidence_quiet : (n : Node Entry) → Quiet n (evidence b n)
+  unfolding evidence
+  evidence_quiet n = led_quiet n (append_evidence b n (b.evidence n.log n.view)) (go (b.evidence n.log n.view))
+    where
+      go : (m : Result Entry F) → Quiet n (append_evidence b n m)
+      go (Err why) = as_before n
+      go (Ok e) = record { reserved = omega arith; used = refl }
+
   message_quiet : (m : Message) (n : Node Entry) → Quiet n (delivery m b x n)
   message_quiet m n = by_test (Quiet n) (same m.to x) (answer m b x n) (idle n) (λ d. go m.body) (λ d. as_before n)
     where
@@ -168,6 +176,7 @@ module _ {Q G R A F : Type 0} (b : Book Entry Q G R A F) (x : NodeId) where
     event_signs n (events.Govern q) = unsigned n _ (govern_quiet q n)
     event_signs n events.Reserve = unsigned n _ (of_turned n _ (reserve_turned b x n))
     event_signs n events.Sign = sign_signs n
+    event_signs n events.Evidence = unsigned n _ (evidence_quiet n)
     event_signs n (events.Replicate to) = unsigned n _ (of_kept n _ (replicate_kept b x to n))
     event_signs n events.Advance = unsigned n _ (of_kept n _ (advance_kept b x n))
     event_signs n (events.StepDown to) = unsigned n _ (of_kept n _ (step_down_kept b x to n))

@@ -43,6 +43,7 @@ module _ {S Q G R A F : Type 0} (b : Book Entry Q G R A F) (x : NodeId) where
   leaf_of n (events.Submit request) = []
   leaf_of n (events.Govern request) = []
   leaf_of n events.Reserve = []
+  leaf_of n events.Evidence = []
   leaf_of n (events.Replicate to) = []
   leaf_of n events.Advance = []
   leaf_of n (events.StepDown to) = []

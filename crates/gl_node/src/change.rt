@@ -58,7 +58,7 @@ pub(crate) fn change_of<'a, B: Book>(event: &'a Event<B>, me: &NodeId) -> Change
     match event {
         Event::Replicate(_) | Event::Advance | Event::StepDown(_) => Change::Nothing,
         Event::Timeout | Event::Reserve => Change::ElectionStep,
-        Event::Submit(_) | Event::Govern(_) | Event::Sign => Change::Entry,
+        Event::Submit(_) | Event::Govern(_) | Event::Sign | Event::Evidence => Change::Entry,
         Event::Message(message) => {
             if message.to == *me {
                 change_by::<B>(message)

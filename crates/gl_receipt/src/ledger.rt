@@ -10,8 +10,8 @@ use gl_merkle::Step;
 use std::alloc::AllocError;
 
 /// A ledger of a service, of which a part is committed. Its i-th entry has seqno i. It may have let
-/// its first entries go: its base is the seqno of the last of these, 0 where it has all. Their views
-/// are known still.
+/// its first entries go: its base is the seqno of the last of these, 0 where it has all. Their
+/// views are known still.
 pub trait CommittedLedger {
     // The ledgers that it may be: their base, their entries from seqno 1 on, the leaves of these,
     // their commit and the service's keys. What a call gives is so of each of them.

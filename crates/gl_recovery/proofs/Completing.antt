@@ -33,7 +33,8 @@ use Rattle.gl_gov_rules.specs.declared.change.Change.TheVariants as changes
 use Rattle.gl_gov_rules.specs.declared.change.Changed.{Changed}
 use Rattle.gl_gov_rules.specs.declared.refusal.Cause.{Cause}
 use Rattle.gl_gov_rules.specs.declared.refusal.GovernanceRefusal.TheVariants as refusals
-use Rattle.gl_gov_rules.specs.History.{History, last_set, seqno_of, Answered}
+use Rattle.gl_gov_rules.specs.declared.carried.Answered.{Answered}
+use Rattle.gl_gov_rules.specs.History.{History, last_set, seqno_of}
 use Rattle.gl_gov_rules.specs.Actions.{first_bad_action}
 use Rattle.gl_gov_rules.specs.Changes.{acceptance_changes, act_changes, ballot_changes, ballot_changes_on, changes_of, changed_at, history, is_complete, request_changes, set_member}
 use Rattle.gl_gov_rules.specs.Governed.{Follows, IsAbove, IsGoverned, is_founding, is_nothing, is_recovery}

@@ -7,7 +7,7 @@ use Rattle.gl_rules.specs.Node.{Node}
 use Rattle.gl_rules.specs.Outcome.{Step, idle}
 use Rattle.gl_rules.specs.Elections.{timeout, step_down}
 use Rattle.gl_rules.specs.Replication.{replicate, advance}
-use Rattle.gl_rules.specs.Requests.{submit, govern, reserve, sign}
+use Rattle.gl_rules.specs.Requests.{submit, govern, reserve, sign, evidence}
 use Rattle.gl_rules.specs.World.{on_message}
 use Rattle.gl_messages.specs.Message.{most_entries}
 use Rattle.gl_messages.specs.declared.message.Body.{Body}
@@ -34,6 +34,7 @@ module _ {S Q G R A F : Type 0} where
   has_few_entries (events.Govern request) = true
   has_few_entries events.Reserve = true
   has_few_entries events.Sign = true
+  has_few_entries events.Evidence = true
   has_few_entries (events.Replicate to) = true
   has_few_entries events.Advance = true
   has_few_entries (events.StepDown to) = true
@@ -46,6 +47,7 @@ module _ {S Q G R A F : Type 0} where
   takes_memory (events.Govern request) = true
   takes_memory events.Reserve = false
   takes_memory events.Sign = true
+  takes_memory events.Evidence = true
   takes_memory (events.Replicate to) = true
   takes_memory events.Advance = false
   takes_memory (events.StepDown to) = true
@@ -69,6 +71,7 @@ rule_of (events.Submit request) b x n = submit b request n
 rule_of (events.Govern request) b x n = govern b request n
 rule_of events.Reserve b x n = reserve b x n
 rule_of events.Sign b x n = sign b x n
+rule_of events.Evidence b x n = evidence b n
 rule_of (events.Replicate to) b x n = replicate b x to n
 rule_of events.Advance b x n = advance b x n
 rule_of (events.StepDown to) b x n = step_down b x to n

@@ -6,7 +6,7 @@ ghost use Rattle.gl_entry.specs.declared.entry.Entry.{Entry as Item};
 ghost use Rattle.gl_rules.specs.Book.{Book as Rules};
 ghost use Rattle.gl_rules.specs.Log.{entry_at, greatest_recorded, is_signature_in, last_signature, last_signature_position, view_at};
 ghost use Rattle.gl_rules.specs.Configuration.{active, configurations_above};
-ghost use Rattle.gl_rules.specs.Replication.{batch, checked_append};
+ghost use Rattle.gl_rules.specs.Replication.{batch, checked_append, greatest_evidence};
 ghost use Rattle.gl_config.specs.Active.{above, active_of, sets_of};
 ghost use Rattle.gl_election.specs.Bridge.{tx_id};
 ghost use Rattle.gl_replication.specs.Holding.{Holding};
@@ -72,6 +72,10 @@ pub trait Book: Drop {
     /// The seqno of the last signature up to a seqno, 0 where there is none.
     fn signature_upto(&self, seqno: u64) -> u64
         ensures { At stands self.now (λ b h. result ≡ last_signature b (take seqno h.log)) };
+
+    /// The seqno of the last evidence entry above the base and up to a seqno, if there is one.
+    fn evidence_upto(&self, seqno: u64) -> Option<u64>
+        ensures { At stands self.now (λ b h. result ≡ greatest_evidence b h.log h.base seqno) };
 
     /// The view of the entry at a seqno, 0 where there is none.
     fn view_at(&self, seqno: u64) -> u32
@@ -152,6 +156,14 @@ pub trait Book: Drop {
             (b.sign h.me leaf h.log view commit ≡ Ok e) × (r ≡ b.view_of e))) }
         ensures refused { IfErr result (λ e. At stands self.old (λ b h.
             Fails e (b.sign h.me leaf h.log view commit))) }
+        ensures err { OnErr result (Stays stands self.old self.new) };
+
+    /// Takes an evidence entry, the digest of a snapshot of the ledger so far, and tells its view.
+    fn evidence(&mut self, view: u32) -> Result<u32, OrNoMemory<Self::Refused>>
+        ensures made { IfOk result (λ r. Enters stands self.old self.new (λ b h e.
+            (b.evidence h.log view ≡ Ok e) × (r ≡ b.view_of e))) }
+        ensures refused { IfErr result (λ e. At stands self.old (λ b h.
+            Fails e (b.evidence h.log view))) }
         ensures err { OnErr result (Stays stands self.old self.new) };
 
     /// Cuts the ledger to a seqno and appends these entries, each of which has to follow: on a

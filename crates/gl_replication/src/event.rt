@@ -19,6 +19,8 @@ pub enum Event<B: Book> {
     Reserve,
     /// The node signs its ledger so far.
     Sign,
+    /// The node appends the digest of a snapshot of its ledger so far.
+    Evidence,
     /// The node sends another one the entries that it is sent next.
     Replicate(NodeId),
     /// The node commits what it may.

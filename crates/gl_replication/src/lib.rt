@@ -9,6 +9,7 @@ mod deliveries;
 mod done;
 mod elections;
 mod event;
+mod evidence;
 mod govern;
 mod holders;
 mod leaves;

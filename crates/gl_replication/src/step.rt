@@ -42,6 +42,7 @@ impl<B: Book> Core<B> {
             Event::Govern(request) => self.govern(request),
             Event::Reserve => self.reserve(),
             Event::Sign => self.sign(),
+            Event::Evidence => self.evidence(),
             Event::Replicate(to) => self.replicate(*to),
             Event::Advance => self.advance(),
             Event::StepDown(to) => self.step_down(*to),

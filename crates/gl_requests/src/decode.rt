@@ -76,8 +76,9 @@ fn read_signature(alloc: Global, cut: &mut Cut<'_>) -> Result<Bytes, OrNoMemory<
     Ok(Bytes::from(Vec::from_slice(alloc, bytes)?))
 }
 
+/// Reads a digest of 32 bytes.
 #[tactic(auto, unfolding(crate::specs::Parsing::digest_at))]
-fn read_digest(cut: &mut Cut<'_>) -> Result<Digest, OrNoMemory<CodeFault>>
+pub fn read_digest(cut: &mut Cut<'_>) -> Result<Digest, OrNoMemory<CodeFault>>
     ensures { Answers (λ digest. (digest, cut.new)) result (digest_at cut.old) }
 {
     Ok(*cut.array::<32>()?)
@@ -85,7 +86,7 @@ fn read_digest(cut: &mut Cut<'_>) -> Result<Digest, OrNoMemory<CodeFault>>
 
 /// Reads the number of a member, which isn't 0.
 #[tactic(auto, unfolding(crate::specs::Parsing::member_number_at))]
-fn read_member_number(cut: &mut Cut<'_>) -> Result<u8, OrNoMemory<CodeFault>>
+pub fn read_member_number(cut: &mut Cut<'_>) -> Result<u8, OrNoMemory<CodeFault>>
     ensures { Answers (λ number. (number, cut.new)) result (member_number_at cut.old) }
 {
     let place = cut.at();
@@ -96,14 +97,21 @@ fn read_member_number(cut: &mut Cut<'_>) -> Result<u8, OrNoMemory<CodeFault>>
     Ok(number)
 }
 
+/// Reads a node's key, and its endorsement after its length, which is 1,048,576 at most.
+#[tactic(auto, unfolding(crate::specs::Parsing::node_at))]
+pub fn read_node(alloc: Global, cut: &mut Cut<'_>) -> Result<NewNode, OrNoMemory<CodeFault>>
+    ensures { Answers (λ node. (node, cut.new)) result (node_at cut.old) }
+{
+    let key = *cut.array::<56>()?;
+    let endorsement = read_signature(alloc, cut)?;
+    Ok(NewNode { key, endorsement })
+}
+
 impl Decode for NewNode {
     ghost reading = { node_at };
 
-    #[tactic(auto, unfolding(crate::specs::Parsing::node_at))]
     fn read(alloc: Global, cut: &mut Cut<'_>) -> Result<NewNode, OrNoMemory<CodeFault>> {
-        let key = *cut.array::<56>()?;
-        let endorsement = read_signature(alloc, cut)?;
-        Ok(NewNode { key, endorsement })
+        read_node(alloc, cut)
     }
 }
 
@@ -129,19 +137,28 @@ impl Decode for ShareDigest {
     }
 }
 
+/// Reads a rule: its two numbers.
+#[tactic(auto, unfolding(crate::specs::Parsing::rule_at))]
+pub fn read_rule(cut: &mut Cut<'_>) -> Result<Rule, OrNoMemory<CodeFault>>
+    ensures { Answers (λ rule. (rule, cut.new)) result (rule_at cut.old) }
+{
+    let num = cut.u16()?;
+    let den = cut.u16()?;
+    Ok(Rule { num, den })
+}
+
 impl Decode for Rule {
     ghost reading = { rule_at };
 
-    #[tactic(auto, unfolding(crate::specs::Parsing::rule_at))]
     fn read(_alloc: Global, cut: &mut Cut<'_>) -> Result<Rule, OrNoMemory<CodeFault>> {
-        let num = cut.u16()?;
-        let den = cut.u16()?;
-        Ok(Rule { num, den })
+        read_rule(cut)
     }
 }
 
+/// Reads a dealing, with its shares' digests after their count. Whether they ascend by member is not
+/// asked.
 #[tactic(auto, unfolding(crate::specs::Parsing::dealing_at))]
-fn read_dealing(alloc: Global, cut: &mut Cut<'_>) -> Result<Dealing, OrNoMemory<CodeFault>>
+pub fn read_dealing(alloc: Global, cut: &mut Cut<'_>) -> Result<Dealing, OrNoMemory<CodeFault>>
     ensures { Answers (λ dealing. (dealing, cut.new)) result (dealing_at cut.old) }
 {
     let threshold = cut.u8()?;
@@ -177,14 +194,21 @@ fn read_action_fields(
     }
 }
 
+/// Reads an action: its number, from 1 to 7, and its fields.
+#[tactic(auto, unfolding(crate::specs::Parsing::action_at))]
+pub fn read_action(alloc: Global, cut: &mut Cut<'_>) -> Result<Action, OrNoMemory<CodeFault>>
+    ensures { Answers (λ action. (action, cut.new)) result (action_at cut.old) }
+{
+    let place = cut.at();
+    let number = cut.u8()?;
+    read_action_fields(alloc, place, number, cut)
+}
+
 impl Decode for Action {
     ghost reading = { action_at };
 
-    #[tactic(auto, unfolding(crate::specs::Parsing::action_at))]
     fn read(alloc: Global, cut: &mut Cut<'_>) -> Result<Action, OrNoMemory<CodeFault>> {
-        let place = cut.at();
-        let number = cut.u8()?;
-        read_action_fields(alloc, place, number, cut)
+        read_action(alloc, cut)
     }
 }
 

@@ -14,6 +14,9 @@ mod request;
 
 pub use action::{Action, Rule};
 pub use copy::copy_actions;
+pub use decode::{
+    read_action, read_dealing, read_digest, read_member_number, read_node, read_rule,
+};
 pub use encode::actions_bytes;
 pub use genesis::{
     Dealing, Digest, Genesis, HssPublicKey, LmsPublicKey, NewMember, NewNode, NodeId, Recovery,

@@ -18,6 +18,10 @@ entries_limit = 64
 abbrev pub frames_limit : ℕ
 frames_limit = 1500000
 
+-- After so many entries without evidence the next one is due.
+abbrev pub evidence_distance : ℕ
+evidence_distance = 1000
+
 -- Whether a seqno is reached, if there is one.
 abbrev pub is_reached : Option ℕ → ℕ → Bool
 is_reached None commit = false
@@ -265,6 +269,17 @@ module _ {E Q G R A F : Type 0} (book : Book E Q G R A F) where
       if nat_lt base (suc seqno) && is_evidence_at (entry_at log (suc seqno))
       then Some (suc seqno)
       else greatest_evidence log base seqno
+
+  -- The seqno of the last evidence entry above the base; where there is none, the base.
+  abbrev pub last_evidence : Node E → ℕ
+  last_evidence n = unwrap_or (greatest_evidence n.log n.base (length n.log)) n.base
+
+  -- Whether evidence is due: its log ends with a signature, so many entries or more after the last
+  -- evidence.
+  abbrev pub is_evidence_due : Node E → Bool
+  is_evidence_due n =
+      (last_signature book n.log == length n.log)
+      && nat_le (last_evidence n + evidence_distance) (length n.log)
 
   -- The evidence entry that y's snapshot is taken at: the greatest one with a committed signature
   -- above.

@@ -130,6 +130,7 @@ effect_of s t (lines.Again node line) =
     at_node s node (λ x. repeats x (request_named t.requests line))
 effect_of s t (lines.Reserve node) = at_node s node (λ x. Happens (event.Reserve x))
 effect_of s t (lines.Sign node) = at_node s node (λ x. Happens (event.Sign x))
+effect_of s t (lines.Evidence node) = at_node s node (λ x. Happens (event.Evidence x))
 effect_of s t (lines.Replicate node to) =
     at_nodes s node to (λ x y. Happens (event.Replicate x y))
 effect_of s t (lines.Advance node) = at_node s node (λ x. Happens (event.Advance x))

@@ -65,6 +65,7 @@ event_in (lines.Timeout node) = Some (events.Timeout (byte_number node))
 event_in (lines.Submit node request) = Some (events.Submit (byte_number node) request)
 event_in (lines.Reserve node) = Some (events.Reserve (byte_number node))
 event_in (lines.Sign node) = Some (events.Sign (byte_number node))
+event_in (lines.Evidence node) = Some (events.Evidence (byte_number node))
 event_in (lines.Replicate node to) =
     Some (events.Replicate (byte_number node) (byte_number to))
 event_in (lines.Advance node) = Some (events.Advance (byte_number node))

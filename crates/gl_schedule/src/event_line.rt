@@ -27,6 +27,9 @@ pub(crate) fn event_in(line: Line) -> Result<Event, Line>
         Line::Sign { node } => Ok(Event::Sign {
             node: node_number(node),
         }),
+        Line::Evidence { node } => Ok(Event::Evidence {
+            node: node_number(node),
+        }),
         Line::Replicate { node, to } => Ok(Event::Replicate {
             node: node_number(node),
             to: node_number(to),

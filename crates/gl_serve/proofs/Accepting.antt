@@ -101,6 +101,7 @@ module _ (b : ServiceBook) (n : Node Entry) (limits : KeepsLimits b n.log) where
   rule_settles (events.Message m) x asked = absurd (cc)
   rule_settles events.Reserve x asked = absurd (cc)
   rule_settles events.Sign x asked = absurd (cc)
+  rule_settles events.Evidence x asked = absurd (cc)
   rule_settles (events.Replicate to) x asked = absurd (cc)
   rule_settles events.Advance x asked = absurd (cc)
   rule_settles (events.StepDown to) x asked = absurd (cc)

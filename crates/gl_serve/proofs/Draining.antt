@@ -6,7 +6,7 @@ use Rattle.std.specs.declared.vec.Vec.{Vec}
 use Rattle.std.proofs.Math.Seq.{take-suc}
 use Rattle.std.proofs.lemmas.List.{map-append}
 use Rattle.gl_serve.specs.declared.streams.Stream.{Stream}
-use Rattle.gl_serve.specs.declared.node.OwnEvent.TheVariants.{Replicate, Reserve, Sign, Advance}
+use Rattle.gl_serve.specs.declared.node.OwnEvent.TheVariants.{Replicate, Reserve, Sign, Advance, Evidence}
 use Rattle.gl_serve.specs.Kept.{next_of, payloads_of}
 use Rattle.gl_serve.specs.Works.{Work, Handle, Lead, tick_events}
 use Rattle.gl_serve.proofs.KeptStreams.{next_some, next_none}
@@ -54,5 +54,5 @@ lead_all peers i within =
     ∙ ap (λ (t : List Work). t ++ map Lead (map Replicate (drop (i + 1) peers))) (lead_next peers i within)
     ∙ append_assoc (map Lead (map Replicate (take i peers))) (Lead (Replicate (get_or peers i [])) ∷ []) (map Lead (map Replicate (drop (i + 1) peers)))
 
-pub tick_works : (peers : List (List ℕ)) → map Lead (tick_events peers) ≡ map Lead (map Replicate peers) ++ (Lead Reserve ∷ Lead Sign ∷ Lead Advance ∷ [])
-tick_works peers = map-append Lead (map Replicate peers) (Reserve ∷ Sign ∷ Advance ∷ [])
+pub tick_works : (peers : List (List ℕ)) → map Lead (tick_events peers) ≡ map Lead (map Replicate peers) ++ (Lead Reserve ∷ Lead Sign ∷ Lead Advance ∷ Lead Evidence ∷ [])
+tick_works peers = map-append Lead (map Replicate peers) (Reserve ∷ Sign ∷ Advance ∷ Evidence ∷ [])

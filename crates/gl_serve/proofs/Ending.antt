@@ -1,5 +1,5 @@
 -- How a serve ends for its node and its file.
-use Rattle.std.proofs.Common.{◌≡◌, ◌⊎◌, ◌≤◌, inl, inr, ℕ, Bool, true, false, List, [], ◌∷◌, Option, None, Some, Result, Ok, Err, IsTrue, refl, sym, ap, subst, ◌∙◌, arith}
+use Rattle.std.proofs.Common.{◌≡◌, ◌⊎◌, ◌≤◌, inl, inr, ℕ, Bool, true, false, not, List, [], ◌∷◌, Option, None, Some, Result, Ok, Err, IsTrue, refl, sym, ap, subst, ◌∙◌, arith}
 use Rattle.gl_entry.specs.declared.entry.Entry.{Entry}
 use Rattle.gl_rules.specs.Identity.{NodeId}
 use Rattle.gl_rules.specs.Node.{Node}
@@ -110,6 +110,7 @@ module _ {D S : Type 0} (stands : S → ServiceBook → Holding Entry → Type 0
   own_ends old new own.Reserve h = unless_stops h.0 events.Reserve old new h.2
   own_ends old new own.Sign h = unless_stops h.0 events.Sign old new h.2
   own_ends old new own.Advance h = stops_node events.Advance old new h.0 h.1 (own_stops h.0 h.2)
+  own_ends old new own.Evidence h = unless_stops (not h.0) events.Evidence old new h.2
   own_ends old new own.Timeout h = stops_node events.Timeout old new h.0 h.1 (own_stops h.0 h.2)
 
   -- an event that stopped the node

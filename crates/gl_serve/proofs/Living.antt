@@ -1,6 +1,6 @@
 -- Whatever a serve does at its node is events, one after the other, through which no leaf signs
 -- twice.
-use Rattle.std.proofs.Common.{◌≡◌, ℕ, ◌+◌, Bool, true, false, List, [], ◌∷◌, ◌++◌, Option, None, Some, Result, Ok, Err, refl, sym, ap, subst, ◌∙◌, nat_le}
+use Rattle.std.proofs.Common.{◌≡◌, ℕ, ◌+◌, Bool, true, false, not, List, [], ◌∷◌, ◌++◌, Option, None, Some, Result, Ok, Err, refl, sym, ap, subst, ◌∙◌, nat_le}
 use Rattle.gl_entry.specs.declared.entry.Entry.{Entry}
 use Rattle.gl_rules.specs.Identity.{NodeId}
 use Rattle.gl_rules.specs.Node.{Node}
@@ -80,6 +80,7 @@ module _ {D S : Type 0} (stands : S → ServiceBook → Holding Entry → Type 0
   owned old own.Reserve outcome new h = unless h.0 events.Reserve old outcome new h.2
   owned old own.Sign outcome new h = unless h.0 events.Sign old outcome new h.2
   owned old own.Advance outcome new h = comes events.Advance old new _ h
+  owned old own.Evidence outcome new h = unless (not h.0) events.Evidence old outcome new h.2
   owned old own.Timeout outcome new h = comes events.Timeout old new _ h
 
   module _ (settings : Serving) where

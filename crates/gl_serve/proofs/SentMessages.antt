@@ -154,6 +154,14 @@ module _ {Q G R A F : Type 0} (b : Book Entry Q G R A F) where
       signed (Ok e) = tt
       signed (Err why) = tt
 
+  evidence_fits : (n : Node Entry) → Fits (requests.evidence b n)
+  unfolding requests.evidence
+  evidence_fits n = at_leader n.role n (requests.append_evidence b n (b.evidence n.log n.view)) (made (b.evidence n.log n.view))
+    where
+      made : (r : Result Entry F) → Fits (requests.append_evidence b n r)
+      made (Ok e) = tt
+      made (Err why) = tt
+
   advance_fits : (x : NodeId) (n : Node Entry) → Fits (replication.advance b x n)
   unfolding replication.advance
   advance_fits x n = at_leader n.role n (replication.commit_to b n (replication.greatest_to_commit b x n (length n.log))) (go (replication.greatest_to_commit b x n (length n.log)))
@@ -285,6 +293,7 @@ module _ {Q G R A F : Type 0} (b : Book Entry Q G R A F) where
     rule_fits (events.Govern request) x n are = govern_fits request n
     rule_fits events.Reserve x n are = reserve_fits x n
     rule_fits events.Sign x n are = sign_fits x n
+    rule_fits events.Evidence x n are = evidence_fits n
     rule_fits (events.Replicate to) x n are = replicate_fits x to n are
     rule_fits events.Advance x n are = advance_fits x n
     rule_fits (events.StepDown to) x n are = step_down_fits x to n

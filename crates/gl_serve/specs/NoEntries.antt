@@ -5,7 +5,7 @@ use Rattle.gl_entry.specs.Entry.{frame_size, is_evidence, is_signature, recorded
 use Rattle.gl_entry.specs.declared.entry.Entry.{Entry}
 use Rattle.gl_rules.specs.Identity.{NodeId}
 use Rattle.gl_ledger.specs.LedgerBook.{ServiceBook}
-use Rattle.gl_ledger.specs.declared.response.Rejection.TheVariants.{NoEntry, NoEvidenceYet}
+use Rattle.gl_ledger.specs.declared.response.Rejection.TheVariants.{NoEntry, NotAfterSignature}
 use Rattle.gl_replication.specs.Holding.{Holding}
 
 abbrev pub empty_book : ServiceBook
@@ -23,7 +23,7 @@ empty_book = record {
   execute = λ log view q. Err NoEntry;
   govern = λ log view g. Err NoEntry;
   sign = λ x leaf log view commit. Err NoEntry;
-  evidence = λ log view. Err NoEvidenceYet;
+  evidence = λ log view. Err NotAfterSignature;
   marked_node = λ g. None;
   mark_refusal = λ log y. None;
   conflict = λ base log len reads. None;

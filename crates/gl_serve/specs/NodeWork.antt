@@ -1,8 +1,9 @@
 -- What a node does with payloads, and with the events of its own.
-use Rattle.std.specs.Prelude.{◌≡◌, ℕ, Bool, true, false, List, [], ◌∷◌, Option, None, Some, Result, length}
+use Rattle.std.specs.Prelude.{◌≡◌, ℕ, Bool, true, false, not, List, [], ◌∷◌, Option, None, Some, Result, length}
 use Rattle.gl_entry.specs.declared.entry.Entry.{Entry}
 use Rattle.gl_rules.specs.Log.{entry_at, is_signature_in}
 use Rattle.gl_rules.specs.Node.{Node}
+use Rattle.gl_rules.specs.Replication.{is_evidence_due}
 use Rattle.gl_rules.specs.Safety.{reported_status}
 use Rattle.gl_ledger.specs.LedgerBook.{ServiceBook}
 use Rattle.gl_messages.specs.declared.answer.AnswerBody.{AnswerBody}
@@ -90,11 +91,12 @@ module _ {D S : Type 0} (stands : S → ServiceBook → Holding Entry → Type 0
   abbrev pub Happen : NodeSeen D S → NodeEvent S → Outcome → NodeSeen D S → Type 0
   Happen old event outcome new = Comes event old new (λ result. outcome ≡ own_outcome result)
 
-  -- Nothing happens where the last entry is a signature of the node's view.
+  -- Nothing happens where there is nothing to do.
   abbrev pub HappenUnless : Bool → NodeSeen D S → NodeEvent S → Outcome → NodeSeen D S → Type 0
   HappenUnless true old event outcome new = (outcome ≡ nothing) × (new ≡ old)
   HappenUnless false old event outcome new = Happen old event outcome new
 
+  -- So it is where the last entry is a signature of the node's view.
   abbrev pub HappenUnsigned : NodeSeen D S → NodeEvent S → Outcome → NodeSeen D S → Type 0
   HappenUnsigned old event outcome new =
       (signed : Bool)
@@ -102,11 +104,19 @@ module _ {D S : Type 0} (stands : S → ServiceBook → Holding Entry → Type 0
       signed ≡ is_signature_in b n.view (entry_at n.log (length n.log)))
       × HappenUnless signed old event outcome new
 
+  -- So it is where no evidence is due.
+  abbrev pub HappenDue : NodeSeen D S → NodeEvent S → Outcome → NodeSeen D S → Type 0
+  HappenDue old event outcome new =
+      (due : Bool)
+      × Reports stands old.core (λ b x n. due ≡ is_evidence_due b n)
+      × HappenUnless (not due) old event outcome new
+
   abbrev pub Owns : NodeSeen D S → OwnEvent → Outcome → NodeSeen D S → Type 0
   Owns old (own.Replicate peer) outcome new = Happen old (events.Replicate peer) outcome new
   Owns old own.Reserve outcome new = HappenUnsigned old events.Reserve outcome new
   Owns old own.Sign outcome new = HappenUnsigned old events.Sign outcome new
   Owns old own.Advance outcome new = Happen old events.Advance outcome new
+  Owns old own.Evidence outcome new = HappenDue old events.Evidence outcome new
   Owns old own.Timeout outcome new = Happen old events.Timeout outcome new
 
   -- What a serve knows of the node.

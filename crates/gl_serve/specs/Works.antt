@@ -2,7 +2,7 @@
 use Rattle.std.specs.Prelude.{ℕ, List, [], ◌∷◌, ◌++◌, map, ◌==◌, if◌then◌else◌}
 use Rattle.gl_outside.specs.Link.{Arrival, Bytes, Tick}
 use Rattle.gl_serve.specs.declared.node.OwnEvent.{OwnEvent}
-use Rattle.gl_serve.specs.declared.node.OwnEvent.TheVariants.{Replicate, Reserve, Sign, Advance}
+use Rattle.gl_serve.specs.declared.node.OwnEvent.TheVariants.{Replicate, Reserve, Sign, Advance, Evidence}
 use Rattle.gl_serve.specs.Streams.{stream, fresh}
 
 -- Something to do.
@@ -18,7 +18,7 @@ pub data Work : Type 0 where
 
 -- The events of a leader's tick, with its peers in order.
 abbrev pub tick_events : List (List ℕ) → List OwnEvent
-tick_events peers = map Replicate peers ++ Reserve ∷ Sign ∷ Advance ∷ []
+tick_events peers = map Replicate peers ++ Reserve ∷ Sign ∷ Advance ∷ Evidence ∷ []
 
 -- What an arrival gives to do, after what came before it.
 abbrev pub works : List (List ℕ) → List Arrival → Arrival → List Work

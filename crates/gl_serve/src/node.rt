@@ -19,6 +19,8 @@ pub enum OwnEvent {
     Sign,
     /// A leader commits what a majority holds.
     Advance,
+    /// A leader makes evidence of the snapshot of its ledger so far, where that is due.
+    Evidence,
     /// A node that heard of no leader for long enough stands for election.
     Timeout,
 }

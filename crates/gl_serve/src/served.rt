@@ -11,12 +11,13 @@ ghost use Rattle.gl_replication.specs.Events.{has_few_entries};
 ghost use Rattle.gl_replication.specs.declared.event.Event.TheVariants as events;
 ghost use Rattle.gl_replication.specs.Stands.{Reports};
 ghost use Rattle.gl_rules.specs.Log.{entry_at, is_signature_in};
+ghost use Rattle.gl_rules.specs.Replication.{is_evidence_due};
 ghost use Rattle.gl_rules.specs.Safety.{reported_status};
 ghost use Rattle.gl_serve.specs.Rules.{Fits};
 ghost use Rattle.gl_serve.specs.ClientAnswers.{Answers, IsAccepted, IsAnswered, Says, message_outcome, nothing, reason_answer_body, receipt_answer_body};
 ghost use Rattle.gl_serve.specs.Events.{Happens};
 ghost use Rattle.gl_serve.specs.Requests.{is_request};
-ghost use Rattle.gl_serve.specs.NodeWork.{Asks, Comes, Handles, Happen, HappenUnsigned, Owns, Questions, Report};
+ghost use Rattle.gl_serve.specs.NodeWork.{Asks, Comes, Handles, Happen, HappenDue, HappenUnsigned, Owns, Questions, Report};
 
 use crate::answers::{
     accept, answer, json_answer_body, make_reason, reason_answer_body, refusal_answer_body,
@@ -271,6 +272,22 @@ fn happen_unsigned<D: Disk, B: KeptBook + ClientBook>(
     happen_alone(replica, event)
 }
 
+/// Evidence of a snapshot is made, where it is due.
+fn happen_due<D: Disk, B: KeptBook + ClientBook>(
+    replica: &mut Replica<D, B>,
+    event: Event<B>,
+) -> Outcome
+    requires few { has_few_entries event ≡ true }
+    ensures apply_event { HappenDue B.stands B.goes_on D.honest D.bytes D.past D.faults
+        replica.old event result replica.new }
+    ensures fits { Fits result }
+{
+    if !replica.core().is_evidence_due() {
+        return nothing(replica.core().alloc);
+    }
+    happen_alone(replica, event)
+}
+
 /// An event of the node's own.
 pub fn own<D: Disk, B: KeptBook + ClientBook>(
     replica: &mut Replica<D, B>,
@@ -285,6 +302,7 @@ pub fn own<D: Disk, B: KeptBook + ClientBook>(
         OwnEvent::Reserve => happen_unsigned(replica, Event::Reserve),
         OwnEvent::Sign => happen_unsigned(replica, Event::Sign),
         OwnEvent::Advance => happen_alone(replica, Event::Advance),
+        OwnEvent::Evidence => happen_due(replica, Event::Evidence),
         OwnEvent::Timeout => happen_alone(replica, Event::Timeout),
     }
 }

@@ -195,5 +195,6 @@ pub(crate) fn tick<L: Link, N: ServedNode>(
     replicate(link, node, settings, session)?;
     lead(link, node, settings, session, OwnEvent::Reserve)?;
     lead(link, node, settings, session, OwnEvent::Sign)?;
-    lead(link, node, settings, session, OwnEvent::Advance)
+    lead(link, node, settings, session, OwnEvent::Advance)?;
+    lead(link, node, settings, session, OwnEvent::Evidence)
 }

@@ -10,7 +10,7 @@ ghost use Rattle.gl_requests.specs.Ranges.{is_genesis};
 ghost use Rattle.gl_ledger.specs.Ledger.{genesis_entry};
 
 use crate::not_opening::NotOpening;
-use gl_audit::{GovState, LedgerEnd, LedgerState, count_up_to, is_unopened, seqno_at};
+use gl_audit::{GovState, LedgerEnd, LedgerState, count_up_to, entry_at, is_unopened, seqno_at};
 use gl_base::{OrNoMemory, Status, TxId, status};
 use gl_entry::{Digest, Entry};
 use gl_ledger::Broken;
@@ -19,6 +19,7 @@ use gl_vmaps::Tables;
 use std::alloc::{AllocError, Global};
 use std::marker::Model;
 
+mod evidence;
 mod governance;
 mod receipts;
 mod recovery;
@@ -35,16 +36,6 @@ pub struct Store {
     state: LedgerState,
     commit: u64,
     alloc: Global,
-}
-
-/// The entry with a seqno among entries from seqno 1 on.
-fn entry_in(entries: &[Entry], seqno: u64) -> Option<&Entry>
-    ensures { option_copied result ≡ entry_at entries.now seqno }
-{
-    match seqno.checked_sub(1) {
-        None => None,
-        Some(index) => entries.get(index as usize),
-    }
 }
 
 impl Model for Store {
@@ -164,7 +155,7 @@ impl Store {
         ensures fits { IfSome result (λ e. is_entry e.now ≡ true) }
         ensures numbered { IfSome result (λ e. e.now.seqno ≡ seqno) }
     {
-        entry_in(&self.entries, seqno)
+        entry_at(&self.entries, seqno)
     }
 
     /// All entries, in order.
@@ -284,8 +275,9 @@ impl Store {
         self.commit = seqno;
     }
 
-    /// Adds an entry that breaks no rule. Running out of memory leaves the store as it was.
-    fn push(&mut self, entry: Entry) -> Result<(), AllocError>
+    /// Adds an entry of which it is known that it breaks no rule. Running out of memory leaves the
+    /// store as it was.
+    pub fn push(&mut self, entry: Entry) -> Result<(), AllocError>
         requires { broken service_layers self.old.ledger entry ≡ None }
         ensures grown { OnOk result (self.new ≡ record self.old {
           ledger = self.old.ledger ++ entry ∷ [];

@@ -4,12 +4,14 @@ pub mod ListPrefixes
 pub mod RecordedPrefixes
 pub mod TrustedSets
 pub mod Unfounded
+pub mod Evidences
 pub mod AnyKeys
 pub mod Growing
 pub mod Cuts
 pub mod Commits
 pub mod AllLedgers
 pub mod TakenEntries
+pub mod TakenEvidence
 pub mod Batches
 pub mod Appending
 pub mod Openings

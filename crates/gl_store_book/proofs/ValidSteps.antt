@@ -10,7 +10,7 @@ use Rattle.gl_rules.specs.Log.{entry_at, is_signature_in, last_signature, view_a
 use Rattle.gl_rules.specs.Configuration.{configurations_above}
 use Rattle.gl_rules.specs.Steps.{as_leader, cut_to, enter_view, if_leader, update_view}
 use Rattle.gl_rules.specs.Replication.{accept_entries, append_reply, highest_possible_match, matching_prefix_len, checked_append, unless_broken as unless_refused, accept_or_refuse, merge_entries, merge_if_matching, become_follower, append_as, on_append}
-use Rattle.gl_rules.specs.Requests.{pending_limit, append_result, execute_request, submit, if_removal_committed, unless_mark_refused, if_markable, govern_as_leader, govern, append_signature, sign_as_leader, sign}
+use Rattle.gl_rules.specs.Requests.{pending_limit, append_result, execute_request, submit, if_removal_committed, unless_mark_refused, if_markable, govern_as_leader, govern, append_signature, sign_as_leader, sign, append_evidence, evidence}
 use Rattle.gl_rules.specs.World.{undo_if_refused, on_message}
 use Rattle.gl_rules.proofs.Ids.{by_test}
 use Rattle.gl_tx.specs.declared.request.Operation.{Operation}
@@ -22,7 +22,8 @@ use Rattle.gl_election.specs.Elections.{position}
 use Rattle.gl_ledger.specs.Audit.{audited}
 use Rattle.gl_ledger.specs.Broken.{broken}
 use Rattle.gl_ledger.specs.LedgerBook.{ServiceBook, by_rule, ledger_book}
-use Rattle.gl_ledger.specs.Makers.{guarded, unless_broken, unless_empty, request_result, govern_result, signing_result}
+use Rattle.gl_ledger.specs.Past.{past_of}
+use Rattle.gl_ledger.specs.Makers.{guarded, unless_broken, unless_empty, request_result, govern_result, signing_result, evidence_result}
 use Rattle.gl_ledger.specs.NodeKeys.{NodeKeys, service_layers}
 use Rattle.gl_ledger.specs.declared.breach.Broken.{Broken}
 use Rattle.gl_ledger.specs.declared.response.Response.{Response}
@@ -123,6 +124,15 @@ module _ (keys : NodeKeys) where
       go false false (Err why) unbroken = here
       go false false (Ok e) unbroken = record { base = here.base; valid = valid-push service_layers n.log e here.valid (unbroken e refl) }
 
+  evident : (n : Node Entry) → IsWhole n → Whole (evidence book n)
+  unfolding evidence
+  evident n here = led n (append_evidence book n (book.evidence n.log n.view)) here
+      (go (book.evidence n.log n.view) (λ e is. made_unbroken (λ (m : Entry). m) n.log (evidence_result (past_of n.log) n.view) e is))
+    where
+      go : (m : Result Entry Rejection) → ((e : Entry) → m ≡ Ok e → broken service_layers n.log e ≡ None) → Whole (append_evidence book n m)
+      go (Err why) unbroken = here
+      go (Ok e) unbroken = record { base = here.base; valid = valid-push service_layers n.log e here.valid (unbroken e refl) }
+
   -- ---- what is taken
 
   appended : (ledger es new : List Entry) → checked_append book 0 ledger es ≡ Ok new → IsValid ledger → IsValid new
@@ -208,6 +218,7 @@ module _ (keys : NodeKeys) where
   step_whole x (events.Govern g) n here = governed g n here
   step_whole x events.Reserve n here = turned n _ here (reserve_turned book x n)
   step_whole x events.Sign n here = signed x n here
+  step_whole x events.Evidence n here = evident n here
   step_whole x (events.Replicate y) n here = kept n _ here (replicate_kept book x y n)
   step_whole x events.Advance n here = kept n _ here (advance_kept book x n)
   step_whole x (events.StepDown y) n here = kept n _ here (step_down_kept book x y n)

@@ -12,7 +12,8 @@ use Rattle.gl_ledger.specs.declared.breach.Broken.{Broken}
 use Rattle.gl_ledger.specs.declared.response.Response.{Response}
 use Rattle.gl_ledger.specs.declared.response.Rejection.{Rejection}
 use Rattle.gl_ledger.specs.LedgerBook.{by_rule}
-use Rattle.gl_ledger.specs.Makers.{guarded, request_result, govern_result}
+use Rattle.gl_ledger.specs.Past.{past_of}
+use Rattle.gl_ledger.specs.Makers.{guarded, request_result, govern_result, evidence_result}
 
 -- The entry records no request of governance.
 abbrev pub IsNoGovernance : Content → Type 0
@@ -31,6 +32,11 @@ abbrev pub governed : List Entry → ℕ → GovernanceRequest → Result (Entry
 governed ledger view g =
     guarded service_layers (λ made. made.0) ledger (govern_result ledger view g)
 
+-- The same of an evidence.
+abbrev pub evident : List Entry → ℕ → Result Entry Rejection
+evident ledger view =
+    guarded service_layers (λ made. made) ledger (evidence_result (past_of ledger) view)
+
 -- A refusal for the rule that is broken; memory may run out at any time.
 abbrev pub RefusesFor : Option Broken → OrNoMemory Rejection → Type 0
 RefusesFor expected NoMemory = Unit {0}
@@ -42,5 +48,13 @@ pub record Takes (expected : Result (Entry × Response) Rejection) (view : ℕ)
     (old new : List Entry) : Type 0 where
   pub entry : Entry
   pub made : expected ≡ Ok (entry, given)
+  pub in_view : entry.view ≡ view
+  pub entered : new ≡ old ++ entry ∷ []
+
+-- The ledger has one more entry, in this view, which was owed.
+pub record TakesEvidence (expected : Result Entry Rejection) (view : ℕ) (old new : List Entry) :
+    Type 0 where
+  pub entry : Entry
+  pub made : expected ≡ Ok entry
   pub in_view : entry.view ≡ view
   pub entered : new ≡ old ++ entry ∷ []

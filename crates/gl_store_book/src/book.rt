@@ -3,6 +3,7 @@
 ghost use Rattle.std.specs.Prelude.{◌≡◌};
 
 use crate::batch::batch;
+use crate::evidence::last_evidence;
 use crate::refusals::by_rule;
 use crate::store_book::StoreBook;
 use gl_base::{OrNoMemory, TxId};
@@ -67,6 +68,10 @@ impl Book for StoreBook {
 
     fn signature_upto(&self, seqno: u64) -> u64 {
         self.ledger.store().signature_upto(seqno)
+    }
+
+    fn evidence_upto(&self, seqno: u64) -> Option<u64> {
+        last_evidence(self.ledger.store().entries(), seqno)
     }
 
     fn view_at(&self, seqno: u64) -> u32 {
@@ -153,6 +158,11 @@ impl Book for StoreBook {
         if let Err(error) = self.ledger.apply(entry) {
             return Err(by_rule(error));
         }
+        Ok(view)
+    }
+
+    fn evidence(&mut self, view: u32) -> Result<u32, OrNoMemory<Rejection>> {
+        self.ledger.evidence(view)?;
         Ok(view)
     }
 

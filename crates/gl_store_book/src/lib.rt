@@ -10,6 +10,7 @@ mod book;
 mod book_ledger;
 mod client_book;
 mod configurations;
+mod evidence;
 mod founding;
 mod laws;
 mod makers;

@@ -1,27 +1,29 @@
 //! The entries that a ledger takes for requests.
 
-ghost use Rattle.std.specs.Prelude.{◌≡◌, ◌≤◌, ◌<◌, true, false, length, Err, IfOk, IfErr, IfSome, IfNone, IsTrue, OnErr, ℕ, List};
+ghost use Rattle.std.specs.Prelude.{◌≡◌, ◌≤◌, ◌<◌, true, false, length, Ok, Err, IfOk, IfErr, IfSome, IfNone, IsTrue, OnOk, OnErr, ℕ, List};
 ghost use Rattle.gl_base.specs.Answers.{Fails};
 ghost use Rattle.gl_entry.specs.declared.entry.Entry as entries;
 ghost use Rattle.gl_requests.specs.Ranges.{is_request};
 ghost use Rattle.gl_gov_rules.specs.Governed.{is_founding, is_recovery};
 ghost use Rattle.gl_ledger.specs.Ledger.{HasViewsUpTo};
-ghost use Rattle.gl_ledger.specs.Makers.{govern_result};
+ghost use Rattle.gl_ledger.specs.Makers.{evidence_result, govern_result};
 ghost use Rattle.gl_ledger.specs.NodeKeys.{service_layers};
 ghost use Rattle.gl_ledger.specs.Recordings.{last_entry};
 ghost use Rattle.gl_ledger.specs.Sound.{IsSound};
 ghost use Rattle.gl_ledger.specs.declared.response.Response.TheVariants.{Governed, Replied};
-ghost use Rattle.gl_ledger.specs.Past.{is_unopened};
-ghost use Rattle.gl_store_book.specs.Taken.{Takes, executed, governed};
+ghost use Rattle.gl_ledger.specs.Past.{is_unopened, past_of};
+ghost use Rattle.gl_store_book.specs.Taken.{Takes, TakesEvidence, evident, executed, governed};
 
 use crate::book_ledger::{BookLedger, list_last};
 use crate::refusals::{by_rule, by_store};
 use gl_base::OrNoMemory;
+use gl_entry::Entry;
 use gl_gov_decisions::refusal;
 use gl_gov_rules::ProposalStatus;
 use gl_ledger::{Refusal, Rejection};
 use gl_requests::{GovernanceRequest, is_request};
 use gl_tx::{Reply, Request};
+use std::alloc::AllocError;
 
 /// Whether the request founds a service, or recovers it.
 fn founds(request: &GovernanceRequest) -> bool
@@ -216,5 +218,49 @@ impl BookLedger {
             Ok(None) => unreachable!(),
             Err(_) => OrNoMemory::NoMemory,
         }
+    }
+
+    /// Takes an entry for an evidence: the digest of a snapshot of the ledger so far.
+    pub fn evidence(&mut self, view: u32) -> Result<(), OrNoMemory<Rejection>>
+        ensures made { OnOk result
+            (TakesEvidence (evident self.old view) view self.old self.new) }
+        ensures refused { IfErr result (λ e. Fails e (evident self.old view)) }
+        ensures err { OnErr result (self.new ≡ self.old) }
+    {
+        let entry = self.store.evidence_entry(view)?;
+        if self.may_make(view) {
+            self.push_evidence(view, entry)?;
+            Ok(())
+        } else {
+            self.apply_evidence(view, entry)
+        }
+    }
+
+    /// Takes the entry of an evidence, which breaks no rule.
+    fn push_evidence(&mut self, view: u32, entry: Entry) -> Result<(), AllocError>
+        requires up_to { HasViewsUpTo view self.old }
+        requires some { 0 < length self.old }
+        requires opened { is_unopened (last_entry self.old) ≡ false }
+        requires evidence { evidence_result (past_of self.old) view ≡ Ok entry }
+        ensures made { OnOk result
+            (TakesEvidence (evident self.old view) view self.old self.new) }
+        ensures err { OnErr result (self.new ≡ self.old) }
+    {
+        self.store.push(entry)?;
+        Ok(())
+    }
+
+    /// The same where the entry is tried by the rules.
+    fn apply_evidence(&mut self, view: u32, entry: Entry) -> Result<(), OrNoMemory<Rejection>>
+        requires evidence { evidence_result (past_of self.old) view ≡ Ok entry }
+        ensures made { OnOk result
+            (TakesEvidence (evident self.old view) view self.old self.new) }
+        ensures refused { IfErr result (λ e. Fails e (evident self.old view)) }
+        ensures err { OnErr result (self.new ≡ self.old) }
+    {
+        if let Err(error) = self.apply(entry) {
+            return Err(by_rule(error));
+        }
+        Ok(())
     }
 }

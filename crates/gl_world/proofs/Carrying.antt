@@ -153,6 +153,14 @@ module _ {E Q G R A F : Type 0} (b : Book E Q G R A F) where
       signed (Ok e) = refl
       signed (Err why) = refl
 
+  evidence_light : (n : Node E) → Light (requests.evidence b n)
+  unfolding requests.evidence
+  evidence_light n = at_leader n.role n (requests.append_evidence b n (b.evidence n.log n.view)) (go (b.evidence n.log n.view))
+    where
+      go : (r : Result E F) → Light (requests.append_evidence b n r)
+      go (Ok e) = refl
+      go (Err why) = refl
+
   advance_light : (x : NodeId) (n : Node E) → Light (replication.advance b x n)
   unfolding replication.advance
   advance_light x n =
@@ -276,6 +284,7 @@ rule_light ids sent (events.Submit node request) b x n = submit_light b request 
 rule_light ids sent (events.Govern node request) b x n = govern_light b request n
 rule_light ids sent (events.Reserve node) b x n = reserve_light b x n
 rule_light ids sent (events.Sign node) b x n = sign_light b x n
+rule_light ids sent (events.Evidence node) b x n = evidence_light b n
 rule_light ids sent (events.Replicate node to) b x n = replicate_light b x (node_in ids to) n
 rule_light ids sent (events.Advance node) b x n = advance_light b x n
 rule_light ids sent (events.StepDown node to) b x n = step_down_light b x (node_in ids to) n

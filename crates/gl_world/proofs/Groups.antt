@@ -21,7 +21,7 @@ use Rattle.gl_ledger.specs.Past.{past_of}
 use Rattle.gl_ledger.specs.Broken.{may_record}
 use Rattle.gl_ledger.specs.Ledger.{genesis_entry}
 use Rattle.gl_tx.specs.declared.request.Operation.{Operation}
-use Rattle.gl_ledger.specs.Makers.{request_result, govern_result, signing_result}
+use Rattle.gl_ledger.specs.Makers.{request_result, govern_result, signing_result, evidence_result}
 use Rattle.gl_ledger.specs.OpeningLedger.{Begins, Founds}
 use Rattle.gl_ledger.proofs.Lawful.{lawful}
 use Rattle.gl_ledger.proofs.OpeningLaws.{member_first}
@@ -32,7 +32,7 @@ use Rattle.gl_ledger.proofs.Openings.{identity_after_genesis}
 use Rattle.gl_world.specs.Service.{ServiceEvent, Leads}
 use Rattle.gl_world.specs.Service as service
 use Rattle.gl_world.proofs.Safe.{begins_retiring, begins_safe}
-use Rattle.gl_world.proofs.Leading.{recorded, records, unrecovered, leader_executes, leader_governs, leader_sound}
+use Rattle.gl_world.proofs.Leading.{recorded, records, unrecovered, leader_evident, leader_executes, leader_governs, leader_sound}
 use Rattle.gl_world.proofs.Founded.{IsFoundedBy, leader_identity, leader_key, leader_signs_with_key}
 use Rattle.gl_world.specs.declared.settings.Settings.{Settings}
 use Rattle.gl_world.specs.Founding.{numbers_from, endorsement_of, node_of, id_of, node_ids, number_of, keys_of, genesis_of}
@@ -115,6 +115,11 @@ pub group_governs : (s : Settings) → IsGroup s → (events : List ServiceEvent
     let n = service.node_of service_layers (keys_of s) (start_of s) events x in
     (book_of s).govern n.log n.view request ≡ govern_result n.log n.view request
 group_governs s h events x leads request = leader_governs service_layers (keys_of s) (start_of s) (group_begins s h) events x leads request
+
+pub group_evident : (s : Settings) → IsGroup s → (events : List ServiceEvent) (x : NodeId) → Leads service_layers (keys_of s) (start_of s) events x →
+    let n = service.node_of service_layers (keys_of s) (start_of s) events x in
+    (book_of s).evidence n.log n.view ≡ evidence_result (past_of n.log) n.view
+group_evident s h events x leads = leader_evident service_layers (keys_of s) (start_of s) (group_begins s h) events x leads
 
 -- the service was founded by its genesis
 group_founded : (s : Settings) → IsGroup s → IsFoundedBy service_layers (start_of s) (genesis_of s)

@@ -18,13 +18,14 @@ use Rattle.gl_ledger.specs.NodeKeys.{NodeKeys}
 use Rattle.gl_ledger.specs.Recordings.{recorded_nodes}
 use Rattle.gl_ledger.specs.Past.{is_unopened, past_of}
 use Rattle.gl_ledger.specs.Broken.{is_later_commit, may_record}
-use Rattle.gl_ledger.specs.Makers.{MayMake, MakesValid, request_result, signing_result, govern_result}
+use Rattle.gl_ledger.specs.Makers.{MayMake, MakesValid, request_result, signing_result, govern_result, evidence_result}
 use Rattle.gl_ledger.specs.LedgerBook.{ledger_book}
 use Rattle.gl_ledger.specs.OpeningLedger.{Begins}
 use Rattle.gl_ledger.specs.Sound.{IsSound, IsUnrecovered}
 use Rattle.gl_ledger.proofs.Governed.{followed}
 use Rattle.gl_ledger.proofs.Governing.{govern_is}
 use Rattle.gl_ledger.proofs.Lawful.{lawful}
+use Rattle.gl_ledger.proofs.EvidenceEntries.{evidence_is}
 use Rattle.gl_ledger.proofs.MadeEntries.{execute_is, may_go_on}
 use Rattle.gl_ledger.proofs.Opened.{begins_opening, opened_configured}
 use Rattle.gl_ledger.proofs.AcceptedSignatures.{sign_is, may_make, configured_recorded}
@@ -122,6 +123,9 @@ module _ (layers : Layers) (keys : NodeKeys) (s : Start Entry) (h : Begins layer
 
   pub leader_signs : (leaf : ℕ) → MakesValid layers keys x leaf n.log n.view n.commit → (ledger_book layers keys).sign x leaf n.log n.view n.commit ≡ signing_result keys x leaf n.log n.view n.commit
   leader_signs leaf valid = sign_is layers keys n.log n.view n.commit four_bytes may_go x leaf recorded may valid
+
+  pub leader_evident : (ledger_book layers keys).evidence n.log n.view ≡ evidence_result (past_of n.log) n.view
+  leader_evident = evidence_is layers keys n.log n.view four_bytes may_go
 
   pub leader_governs : (g : GovernanceRequest) → (ledger_book layers keys).govern n.log n.view g ≡ govern_result n.log n.view g
   leader_governs g =

@@ -149,6 +149,14 @@ module _ {E Q G R A F : Type 0} (b : Book E Q G R A F) where
       signed (Ok e) = omega arith
       signed (Err why) = omega arith
 
+  pub evidence_few : (n : Node E) → Few (most_sent b n) (requests.evidence b n)
+  unfolding requests.evidence
+  evidence_few n = at_leader (most_sent b n) n.role n (requests.append_evidence b n (b.evidence n.log n.view)) (go (b.evidence n.log n.view))
+    where
+      go : (r : Result E F) → Few (most_sent b n) (requests.append_evidence b n r)
+      go (Ok e) = omega arith
+      go (Err why) = omega arith
+
   pub advance_few : (x : NodeId) (n : Node E) → Few (most_sent b n) (replication.advance b x n)
   unfolding replication.advance
   advance_few x n =
@@ -281,6 +289,7 @@ rule_few ids sent (events.Submit node request) b x n = submit_few b request n
 rule_few ids sent (events.Govern node request) b x n = govern_few b request n
 rule_few ids sent (events.Reserve node) b x n = reserve_few b x n
 rule_few ids sent (events.Sign node) b x n = sign_few b x n
+rule_few ids sent (events.Evidence node) b x n = evidence_few b n
 rule_few ids sent (events.Replicate node to) b x n = replicate_few b x (node_in ids to) n
 rule_few ids sent (events.Advance node) b x n = advance_few b x n
 rule_few ids sent (events.StepDown node to) b x n = step_down_few b x (node_in ids to) n

@@ -29,9 +29,10 @@ use Rattle.gl_ledger.specs.declared.refusal.Refusal.{Refusal}
 use Rattle.gl_ledger.specs.declared.refusal.Refusal.TheVariants as refusals
 use Rattle.gl_ledger.specs.declared.response.Response.{Response}
 use Rattle.gl_ledger.specs.declared.response.Rejection.{Rejection}
-use Rattle.gl_ledger.specs.declared.response.Rejection.TheVariants.{Unencodable, Founding}
+use Rattle.gl_ledger.specs.declared.response.Rejection.TheVariants.{Unencodable, NotAfterSignature, Founding}
+use Rattle.gl_ledger.specs.Past.{Past, is_signed, past_of}
 use Rattle.gl_ledger.specs.Broken.{broken}
-use Rattle.gl_ledger.specs.Makers.{with_reply, request_result, by_store, unless_refused, governance_made, govern_result, unless_broken, guarded, unless_empty, signed_entry, signing_result}
+use Rattle.gl_ledger.specs.Makers.{with_reply, request_result, by_store, unless_refused, governance_made, govern_result, unless_broken, guarded, unless_empty, signed_entry, signing_result, within_snapshot, evidence_entry, evidence_result}
 use Rattle.gl_ledger.specs.LedgerBook.{ledger_book}
 use Rattle.gl_ledger.specs.OpeningLedger.{Begins}
 use Rattle.gl_ledger.proofs.Applications.{execute_ok}
@@ -75,6 +76,13 @@ none_within_size entry_of size made none = go (nat_lt body_limit size)
     go : (b : Bool) → MakesNone entry_of (if b then Err (refusals.TooLarge size) else made)
     go true = tt
     go false = none
+
+none_if : {X W : Type 0} (entry_of : X → Entry) (t : Bool) (one two : Result X W) → MakesNone entry_of one → MakesNone entry_of two → MakesNone entry_of (if t then one else two)
+none_if entry_of true one two here other = here
+none_if entry_of false one two here other = other
+
+none_within_snapshot : {X : Type 0} (entry_of : X → Entry) (size : ℕ) (made : Result X Refusal) → MakesNone entry_of made → MakesNone entry_of (within_snapshot size made)
+none_within_snapshot entry_of size made none = none_if entry_of _ (Err (refusals.TooLarge size)) made tt none
 
 none_by_store : {X : Type 0} (entry_of : X → Entry) (made : Result X Refusal) → MakesNone entry_of made → MakesNone entry_of (by_store made)
 none_by_store entry_of (Ok made) none = none
@@ -143,6 +151,21 @@ none_signed keys x leaf ledger view commit =
     let made = signed_entry keys x leaf ledger view commit in
     none_by_store entry_alone (within_seqnos ledger made) (none_within_seqnos entry_alone ledger made refl)
 
+-- the entry of an evidence
+none_evident : (p : Past) (view : ℕ) → MakesNone entry_alone (evidence_result p view)
+none_evident p view = go (is_signed p.last) _ (nat_lt p.len last_seqno)
+  where
+    kept : Bool → Result Entry Refusal
+    kept left = if left then Ok (evidence_entry p view) else Err refusals.SeqnoLimit
+
+    none_kept : (left : Bool) → MakesNone entry_alone (kept left)
+    none_kept true = refl
+    none_kept false = tt
+
+    go : (signed : Bool) (size : ℕ) (left : Bool) → MakesNone entry_alone (if signed then by_store (within_snapshot size (kept left)) else Err NotAfterSignature)
+    go false size left = tt
+    go true size left = none_by_store entry_alone (within_snapshot size (kept left)) (none_within_snapshot entry_alone size (kept left) (none_kept left))
+
 module _ (layers : Layers) (keys : NodeKeys) where
   -- none of them is a recovery
   makes_none : MakesOnly (ledger_book layers keys) NoRecovery
@@ -154,7 +177,8 @@ module _ (layers : Layers) (keys : NodeKeys) where
       none_made entry_alone _ e
       (none_guarded layers entry_alone ledger (unless_empty ledger (signing_result keys x leaf ledger view commit))
       (none_unless_empty entry_alone ledger (signing_result keys x leaf ledger view commit) (none_signed keys x leaf ledger view commit))) is
-  makes_none e (Evident ledger view is) = absurd (cc)
+  makes_none e (Evident ledger view is) =
+      none_made entry_alone _ e (none_guarded layers entry_alone ledger (evidence_result (past_of ledger) view) (none_evident (past_of ledger) view)) is
 
   -- so no node of a service that begins without one ever holds one
   pub stays_unrecovered : (s : Start Entry) → Begins layers s → (events : List ServiceEvent) (x : NodeId) → IsUnrecovered (node_of layers keys s events x).log

@@ -11,7 +11,7 @@ use Rattle.gl_rules.specs.Outcome.{Step, idle}
 use Rattle.gl_rules.specs.World.{Happened, at, happens, deliver, on_message}
 use Rattle.gl_rules.specs.Elections.{timeout, step_down}
 use Rattle.gl_rules.specs.Replication.{replicate, advance, restart}
-use Rattle.gl_rules.specs.Requests.{submit, govern, reserve, sign}
+use Rattle.gl_rules.specs.Requests.{submit, govern, reserve, sign, evidence}
 use Rattle.gl_rules.proofs.Ids.{same_self}
 use Rattle.gl_gov_rules.proofs.Counting.{all_append}
 use Rattle.gl_ledger.specs.LedgerBook.{ServiceBook}
@@ -57,6 +57,7 @@ happens_at s w (events.Submit node request) h = ap {B = ServiceHappened} (λ (x 
 happens_at s w (events.Govern node request) h = ap {B = ServiceHappened} (λ (x : NodeId). at w x (govern (book_of s) request (w.nodes x))) (sym (node_is s node h))
 happens_at s w (events.Reserve node) h = ap {B = ServiceHappened} (λ (x : NodeId). at w x (reserve (book_of s) x (w.nodes x))) (sym (node_is s node h))
 happens_at s w (events.Sign node) h = ap {B = ServiceHappened} (λ (x : NodeId). at w x (sign (book_of s) x (w.nodes x))) (sym (node_is s node h))
+happens_at s w (events.Evidence node) h = ap {B = ServiceHappened} (λ (x : NodeId). at w x (evidence (book_of s) (w.nodes x))) (sym (node_is s node h))
 happens_at s w (events.Replicate node to) h =
     let both = and_parts (is_number (length (node_ids s)) node) (is_number (length (node_ids s)) to) h in
     ap {B = ServiceHappened} (λ (x : NodeId). at w x (replicate (book_of s) x (id_of s to) (w.nodes x))) (sym (node_is s node both.0))

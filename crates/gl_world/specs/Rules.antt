@@ -10,7 +10,7 @@ use Rattle.gl_rules.specs.Outcome.{idle}
 use Rattle.gl_rules.specs.Log.{signed_prefix}
 use Rattle.gl_rules.specs.Elections.{timeout, step_down}
 use Rattle.gl_rules.specs.Replication.{entries_limit, replicate, advance, restart}
-use Rattle.gl_rules.specs.Requests.{submit, govern, reserve, sign}
+use Rattle.gl_rules.specs.Requests.{submit, govern, reserve, sign, evidence}
 use Rattle.gl_rules.specs.World.{on_message}
 use Rattle.gl_election.specs.Bridge.{message_to}
 use Rattle.gl_world.specs.declared.event.Event.{Event}
@@ -34,6 +34,7 @@ acting_node ids sent (events.Submit node request) = node_in ids node
 acting_node ids sent (events.Govern node request) = node_in ids node
 acting_node ids sent (events.Reserve node) = node_in ids node
 acting_node ids sent (events.Sign node) = node_in ids node
+acting_node ids sent (events.Evidence node) = node_in ids node
 acting_node ids sent (events.Replicate node to) = node_in ids node
 acting_node ids sent (events.Advance node) = node_in ids node
 acting_node ids sent (events.StepDown node to) = node_in ids node
@@ -53,6 +54,7 @@ rule_of ids sent (events.Submit node request) b x n = submit b request n
 rule_of ids sent (events.Govern node request) b x n = govern b request n
 rule_of ids sent (events.Reserve node) b x n = reserve b x n
 rule_of ids sent (events.Sign node) b x n = sign b x n
+rule_of ids sent (events.Evidence node) b x n = evidence b n
 rule_of ids sent (events.Replicate node to) b x n = replicate b x (node_in ids to) n
 rule_of ids sent (events.Advance node) b x n = advance b x n
 rule_of ids sent (events.StepDown node to) b x n = step_down b x (node_in ids to) n

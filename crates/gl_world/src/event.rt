@@ -32,6 +32,10 @@ pub enum Event {
     Sign {
         node: u8,
     },
+    /// The node appends the digest of a snapshot of its ledger so far.
+    Evidence {
+        node: u8,
+    },
     /// The node sends another one the entries that it is sent next.
     Replicate {
         node: u8,

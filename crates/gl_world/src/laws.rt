@@ -7,8 +7,9 @@ ghost use Rattle.gl_tx.specs.declared.request.Operation.{Operation};
 ghost use Rattle.gl_requests.specs.Ranges.{is_first_state};
 ghost use Rattle.gl_requests.specs.declared.request.GovernanceRequest.{GovernanceRequest};
 ghost use Rattle.gl_requests.specs.declared.genesis.ServiceState.{ServiceState};
-ghost use Rattle.gl_ledger.specs.Makers.{govern_result, request_result, signing_result};
+ghost use Rattle.gl_ledger.specs.Makers.{evidence_result, govern_result, request_result, signing_result};
 ghost use Rattle.gl_ledger.specs.OpeningLedger.{Begins};
+ghost use Rattle.gl_ledger.specs.Past.{past_of};
 ghost use Rattle.gl_world.specs.Service.{Leads, ServiceEvent, node_of};
 ghost use Rattle.gl_ledger.specs.NodeKeys.{IsNodeKey, service_layers};
 ghost use Rattle.gl_world.specs.declared.settings.Settings.{Settings};
@@ -43,8 +44,8 @@ pub fn has_node_keys()
         length (endorsement_of s (number_of s x)) ≡ 2348 }
 {}
 
-/// A leader of such a service refuses no request for a rule of the audit, whatever happened before.
-/// Nor does it refuse a signature with a leaf that its key has, where it is a node that starts by
+/// A leader of such a service refuses no request, and no evidence, for a rule of the audit, whatever
+/// happened before. Nor does it refuse a signature with a leaf that its key has, where it is a node that starts by
 /// the settings, or one that joins by them; unless of the latter another key was recorded, whose
 /// digest is that of its own. A node that joined with a key of its own is not among those whose
 /// keys the world has, so nothing is said of its signatures.
@@ -73,4 +74,8 @@ pub fn is_unguarded()
         let n = node_of service_layers (keys_of s) (start_of s) events x in
         (book_of s).sign x leaf n.log n.view n.commit
         ≡ signing_result (keys_of s) x leaf n.log n.view n.commit }
+    ensures evident { (s : Settings) → IsGroup s → (events : List ServiceEvent) (x : NodeId) →
+        Leads service_layers (keys_of s) (start_of s) events x →
+        let n = node_of service_layers (keys_of s) (start_of s) events x in
+        (book_of s).evidence n.log n.view ≡ evidence_result (past_of n.log) n.view }
 {}

@@ -13,7 +13,7 @@ ghost use Rattle.gl_ledger.specs.Recordings.{recorded_nodes};
 ghost use Rattle.gl_ledger.specs.Past.{past_of};
 ghost use Rattle.gl_ledger.specs.Broken.{may_record};
 ghost use Rattle.gl_ledger.specs.Sound.{IsSound, IsUnrecovered};
-ghost use Rattle.gl_ledger.specs.Makers.{MakesValid, govern_result, request_result, signing_result};
+ghost use Rattle.gl_ledger.specs.Makers.{MakesValid, evidence_result, govern_result, request_result, signing_result};
 ghost use Rattle.gl_ledger.specs.LedgerBook.{ledger_book};
 ghost use Rattle.gl_ledger.specs.OpeningLedger.{Begins};
 ghost use Rattle.gl_world.specs.Service.{Leads, ServiceEvent, node_of};
@@ -33,7 +33,7 @@ pub fn a_service_is_safe()
 {}
 
 /// For a rule of the audit the book refuses a leader nothing: no request, of an application or of
-/// governance, and no valid signature.
+/// governance, no valid signature, and no evidence.
 pub fn a_service_is_unguarded()
     ensures executes { (layers : Layers) (keys : NodeKeys) (s : Start Entry) → Begins layers s →
         (events : List ServiceEvent) (x : NodeId) → Leads layers keys s events x →
@@ -51,6 +51,10 @@ pub fn a_service_is_unguarded()
         MakesValid layers keys x leaf n.log n.view n.commit →
         (ledger_book layers keys).sign x leaf n.log n.view n.commit
         ≡ signing_result keys x leaf n.log n.view n.commit }
+    ensures evident { (layers : Layers) (keys : NodeKeys) (s : Start Entry) → Begins layers s →
+        (events : List ServiceEvent) (x : NodeId) → Leads layers keys s events x →
+        let n = node_of layers keys s events x in
+        (ledger_book layers keys).evidence n.log n.view ≡ evidence_result (past_of n.log) n.view }
 {}
 
 /// A leader is a recorded node, and may record its commit in a signature, by the rules of the

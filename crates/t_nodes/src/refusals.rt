@@ -115,7 +115,7 @@ const CAUSES: [Cause; 11] = [
 ];
 
 /// Why a ledger takes no entry: the number, and the values.
-const LEDGER: [(Rejection, u16, &[u64]); 6] = [
+const LEDGER: [(Rejection, u16, &[u64]); 7] = [
     (
         Rejection::ByStore(Refusal::ServiceState(ServiceState::Opening)),
         51,
@@ -143,6 +143,7 @@ const LEDGER: [(Rejection, u16, &[u64]); 6] = [
         &[6],
     ),
     (Rejection::NoEntry, 117, &[]),
+    (Rejection::NotAfterSignature, 129, &[]),
 ];
 
 /// Why an entry breaks a rule: the number, and the values.

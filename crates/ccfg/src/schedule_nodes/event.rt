@@ -43,6 +43,7 @@ pub(crate) fn node_event(
         }
         Event::Reserve { .. } => Ok(Some(NodeEvent::Reserve)),
         Event::Sign { .. } => Ok(Some(NodeEvent::Sign)),
+        Event::Evidence { .. } => Ok(Some(NodeEvent::Evidence)),
         Event::Replicate { to, .. } => Ok(Some(NodeEvent::Replicate(ids[usize::from(*to) - 1]))),
         Event::Advance { .. } => Ok(Some(NodeEvent::Advance)),
         Event::StepDown { to, .. } => Ok(Some(NodeEvent::StepDown(ids[usize::from(*to) - 1]))),

@@ -2,9 +2,9 @@
 //! changed one is worked out from the rules, and `examples/audit/verify_ledger.py`, which is
 //! written from the documents of the format alone, says the same of it.
 
-use crate::tests::part::Of;
 use crate::tests::part::Of::Ledger;
-use crate::tests::part::Part::{All, Changed, Cut, Text, World};
+use crate::tests::part::Part::{All, Changed, Cut, Hex, Text, World};
+use crate::tests::part::{Of, Part};
 use crate::tests::receipts::IDENTITY as OTHER_IDENTITY;
 use crate::tests::run::{Inputs, Output, RUN, Run};
 use crate::tests::table::Table;
@@ -158,6 +158,51 @@ const ENDS: Inputs = &[
     (&[Cut(WHOLE, 0, 15591)], 1, "fault seqno 4 rule 1"),
 ];
 
+/// Evidence behind a ledger: its view, its seqno and the digest of a snapshot.
+const FRAME: Part<'static> = Hex("01 00 55 00 00 00 00 00 02 00 00 00");
+
+const FIFTH: Part<'static> = Hex("05 00 00 00 00 00 00 00 04 20 00 00 00");
+
+const FOURTH: Part<'static> = Hex("04 00 00 00 00 00 00 00 04 20 00 00 00");
+
+const DIGEST_OF_FOUR: Part<'static> = Hex(
+    "3b174948b7f289fefe6fee3a7acecc87ad9d511807b3ffd6595ee382c602b05b",
+);
+
+const DIGEST_OF_THREE: Part<'static> = Hex(
+    "aaab5b4081c9fe7b5bfea6eaee8243850fab097ab610e27ad4de3ba866cb9831",
+);
+
+/// Nothing is written, and nothing is claimed.
+const NO_WRITES: Part<'static> = Hex(
+    "00000000 0000000000000000000000000000000000000000000000000000000000000000",
+);
+
+/// Evidence right after a signature, of another snapshot, and after a request.
+const EVIDENCES: Inputs = &[
+    (
+        &[All(WHOLE), FRAME, FIFTH, DIGEST_OF_FOUR, NO_WRITES],
+        0,
+        "valid 2.5 2.4",
+    ),
+    (
+        &[All(WHOLE), FRAME, FIFTH, DIGEST_OF_THREE, NO_WRITES],
+        1,
+        "fault seqno 5 rule 12",
+    ),
+    (
+        &[
+            Cut(WHOLE, 0, LAST_FRAME),
+            FRAME,
+            FOURTH,
+            DIGEST_OF_THREE,
+            NO_WRITES,
+        ],
+        1,
+        "fault seqno 4 rule 12",
+    ),
+];
+
 /// A changed byte breaks this rule at this seqno. Each row breaks rules after the one that is
 /// reported, too, as the signature after it no longer signs what stands there. Here it is one on
 /// all entries,
@@ -217,6 +262,10 @@ fn play_ends(rt: &impl Abort, table: &mut Table) -> Result<(), AllocError> {
     table.play_inputs(rt, &AUDIT, ENDS)
 }
 
+fn play_evidences(rt: &impl Abort, table: &mut Table) -> Result<(), AllocError> {
+    table.play_inputs(rt, &AUDIT, EVIDENCES)
+}
+
 fn play_changed_frames(rt: &impl Abort, table: &mut Table) -> Result<(), AllocError> {
     table.play_inputs(rt, &AUDIT, CHANGED_FRAMES)
 }
@@ -239,6 +288,7 @@ pub fn play(rt: &impl Abort, table: &mut Table) -> Result<(), AllocError> {
     play_verdicts(rt, table)?;
     play_failures(rt, table)?;
     play_ends(rt, table)?;
+    play_evidences(rt, table)?;
     play_changed_frames(rt, table)?;
     play_changed_views(rt, table)?;
     play_changed_requests(rt, table)?;

@@ -39,6 +39,40 @@ const NOTHING_TO_SIGN: Lines<'static> = &[
     ("sign 1", "refused 114 2"),
 ];
 
+/// Evidence is made right after a signature alone, also the opening one.
+const EVIDENCE: Lines<'static> = &[
+    ("evidence 1", "signed 2.3"),
+    ("evidence 1", "refused 129"),
+    ("submit 1 put public:t 61 01", "accepted 2.4 done"),
+    ("evidence 1", "refused 129"),
+    ("evidence 2", "refused 0"),
+    ("reserve 1", "ok"),
+    ("sign 1", "signed 2.5"),
+    ("advance 1", "commit 2.5"),
+    ("ids 1", "ids 2.1 2.2 2.3 2.4 2.5"),
+];
+
+/// A follower takes evidence as any entry, and a stop leaves it.
+const EVIDENCE_SENT: Lines<'static> = &[
+    ("submit 1 put public:t 61 01", "accepted 2.3 done"),
+    ("reserve 1", "ok"),
+    ("sign 1", "signed 2.4"),
+    ("evidence 1", "signed 2.5"),
+    ("reserve 1", "ok"),
+    ("sign 1", "signed 2.6"),
+    ("replicate 1 2", "ok sent 1"),
+    ("deliver 1", "ok sent 2"),
+    ("deliver 2", "ok"),
+    ("advance 1", "commit 2.6"),
+    ("status 1 2.5", "Committed"),
+    ("evidence 2", "refused 110 2 1"),
+    ("replicate 1 2", "ok sent 3"),
+    ("deliver 3", "ok sent 4"),
+    ("ids 2", "ids 2.1 2.2 2.3 2.4 2.5 2.6"),
+    ("restart 2", "ok"),
+    ("status 2 2.5", "Pending"),
+];
+
 const NOT_OPEN: Lines<'static> = &[
     ("submit 1 put public:t 61 01", "refused 51 1"),
     ("sign 2", "refused 0"),
@@ -130,6 +164,22 @@ const COMMITS: &[Run<'static>] = &[
         name: "a service that is not open",
         input: &[World("1 0 64 opening"), Asked(NOT_OPEN)],
         output: Output::Is(&[Text("1 ok\n"), Answered(2, NOT_OPEN)]),
+        ..REPLAY
+    },
+];
+
+/// Evidence of snapshots.
+const EVIDENCES: &[Run<'static>] = &[
+    Run {
+        name: "evidence after signatures",
+        input: &[World("1 0 1 open"), Asked(EVIDENCE)],
+        output: Output::Is(&[Text("1 ok\n"), Answered(2, EVIDENCE)]),
+        ..REPLAY
+    },
+    Run {
+        name: "evidence at a follower",
+        input: &[World("3 0 1 open"), Asked(EVIDENCE_SENT)],
+        output: Output::Is(&[Text("1 ok\n"), Answered(2, EVIDENCE_SENT)]),
         ..REPLAY
     },
 ];
@@ -266,6 +316,7 @@ const NO_EVENT: Inputs = &[
     (&[OPEN, Text("status 1 2.0\n")], 9, "fault line 2"),
     (&[OPEN, Text("deliver\n")], 9, "fault line 2"),
     (&[OPEN, Text("stepdown 1\n")], 9, "fault line 2"),
+    (&[OPEN, Text("evidence 1 2\n")], 9, "fault line 2"),
     (&[OPEN, Text("join 1 04\n")], 9, "fault line 2"),
 ];
 
@@ -326,6 +377,10 @@ fn play_commits(rt: &impl Abort, table: &mut Table) -> Result<(), AllocError> {
     table.play_all(rt, COMMITS)
 }
 
+fn play_evidences(rt: &impl Abort, table: &mut Table) -> Result<(), AllocError> {
+    table.play_all(rt, EVIDENCES)
+}
+
 fn play_requests(rt: &impl Abort, table: &mut Table) -> Result<(), AllocError> {
     table.play_all(rt, REQUESTS)
 }
@@ -370,9 +425,10 @@ fn play_no_ballot(rt: &impl Abort, table: &mut Table) -> Result<(), AllocError> 
     table.play_inputs(rt, &REPLAY, NO_BALLOT)
 }
 
-/// Plays schedules of one node.
+/// Plays schedules of one node, and evidence of snapshots at several.
 pub fn play(rt: &impl Abort, table: &mut Table) -> Result<(), AllocError> {
     play_commits(rt, table)?;
+    play_evidences(rt, table)?;
     play_requests(rt, table)?;
     play_largest(rt, table)?;
     play_failures(rt, table)

@@ -270,6 +270,65 @@ const CLIENTS: &[Run<'static>] = &[
     },
 ];
 
+/// So many puts that evidence is due at the next tick: 2.3 to 2.1000.
+const PUTS: Arrival<'static> = Bytes(
+    0,
+    &[Times(
+        b"\x00\x00\x00\x21\x10\x08\x00\x00\x00\x00\x00\x00\x00\x14\x00\x00\x00\
+        \x01\x00\x03\x08public:t\x01\x00a\x01\x00\x00\x00\x01",
+        998,
+    )],
+);
+
+/// A leader makes evidence by itself. What it made is asked for after a stop: its file's last
+/// signature records the commit then.
+const EVIDENCES: &[Run<'static>] = &[
+    // Signature 2.1001 and evidence 2.1002.
+    Run {
+        name: "evidence at a tick",
+        link: &[PUTS, Ticks(1)],
+        output: Output::Is(&[Text("served 998 lost 0\n")]),
+        ..BEGINNING
+    },
+    Run {
+        name: "what stands after a tick",
+        disk: Some(&[All(Disk("evidence at a tick"))]),
+        link: &[
+            Payload(0, &[Hex("12 0100000000000000 02000000 ea03000000000000")]),
+            Payload(0, &[Hex("12 0200000000000000 02000000 eb03000000000000")]),
+        ],
+        output: Output::Is(&[Text("served 2 lost 0\n")]),
+        sent: Some(&[
+            Frame::Payload(0, &[Hex("22 0100000000000000 01")]),
+            Frame::Payload(0, &[Hex("22 0200000000000000 00")]),
+        ]),
+        ..NODE
+    },
+    // The second tick signs it, as 2.1003, and no more evidence is due.
+    Run {
+        name: "a tick after evidence",
+        link: &[PUTS, Ticks(3)],
+        output: Output::Is(&[Text("served 998 lost 0\n")]),
+        ..BEGINNING
+    },
+    Run {
+        name: "what stands after more ticks",
+        disk: Some(&[All(Disk("a tick after evidence"))]),
+        link: &[
+            Payload(0, &[Hex("12 0100000000000000 02000000 e903000000000000")]),
+            Payload(0, &[Hex("12 0200000000000000 02000000 eb03000000000000")]),
+            Payload(0, &[Hex("12 0300000000000000 02000000 ec03000000000000")]),
+        ],
+        output: Output::Is(&[Text("served 3 lost 0\n")]),
+        sent: Some(&[
+            Frame::Payload(0, &[Hex("22 0100000000000000 02")]),
+            Frame::Payload(0, &[Hex("22 0200000000000000 01")]),
+            Frame::Payload(0, &[Hex("22 0300000000000000 00")]),
+        ]),
+        ..NODE
+    },
+];
+
 /// Files with a vote.
 const VOTES: &[Run<'static>] = &[
     // A vote counts after an open gate alone.
@@ -507,6 +566,10 @@ fn play_clients(rt: &impl Abort, table: &mut Table) -> Result<(), AllocError> {
     table.play_all(rt, CLIENTS)
 }
 
+fn play_evidences(rt: &impl Abort, table: &mut Table) -> Result<(), AllocError> {
+    table.play_all(rt, EVIDENCES)
+}
+
 fn play_votes(rt: &impl Abort, table: &mut Table) -> Result<(), AllocError> {
     table.play_all(rt, VOTES)
 }
@@ -525,6 +588,7 @@ pub fn play(rt: &impl Abort, table: &mut Table) -> Result<(), AllocError> {
     play_links(rt, table)?;
     play_failures(rt, table)?;
     play_clients(rt, table)?;
+    play_evidences(rt, table)?;
     play_votes(rt, table)
 }
 

@@ -143,7 +143,7 @@ impl LedgerState {
     ghost use Rattle.gl_rules.specs.Identity.{NodeId, member};
     ghost use Rattle.gl_ledger.specs.Tree.{leaves_of};
     ghost use Rattle.gl_ledger.specs.Recordings.{last_entry, recording_of, recorded_nodes, mark, removal};
-    ghost use Rattle.gl_ledger.specs.Broken.{broken, broken_where, broken_by, broken_by_signature, broken_by_governance, broken_by_application, broken_by_fault, fault_of_signature, breach, is_next_view, is_in_order, is_above_removal, may_record};
+    ghost use Rattle.gl_ledger.specs.Broken.{broken, broken_where, broken_by, broken_by_signature, broken_by_governance, broken_by_application, broken_by_evidence, broken_by_fault, fault_of_signature, breach, is_next_view, is_in_order, is_above_removal, may_record};
     ghost use Rattle.gl_ledger.specs.NodeKeys.{service_layers};
     ghost use Rattle.gl_ledger.specs.Past.{last_signed, past_of, signs_at};
 
@@ -202,7 +202,7 @@ impl LedgerState {
     }
 
     /// Whether the last entry is a signature.
-    fn is_signed(&self) -> bool
+    pub fn is_signed(&self) -> bool
         ensures { ForLedgers self.now (λ ledger. result ≡ signs_at (last_entry ledger)) }
     {
         self.signs_at(self.end.len)
@@ -256,7 +256,7 @@ impl LedgerState {
             Recording::Application(request) => self.broken_by_application(request, entry),
             Recording::Governance(request) => self.broken_by_governance(request, entry),
             Recording::Signature(signature) => Ok(self.broken_by_signature(signature, entry)),
-            Recording::Evidence(_) => Ok(Some(self.breach(12, entry))),
+            Recording::Evidence(digest) => self.broken_by_evidence(digest, entry),
         }
     }
 
@@ -376,6 +376,32 @@ impl LedgerState {
                 refusal: EntryRefusal::Governance(why),
             })),
         }
+    }
+
+    /// Rule 12: an evidence stands right after a signature, and has the digest of the body of a
+    /// snapshot of all entries, which is within its limit.
+    fn broken_by_evidence(
+        &self,
+        digest: &Digest,
+        entry: &Entry,
+    ) -> Result<Option<Broken>, AllocError>
+        requires state { IsState self.now }
+        requires named { self.now.end.len ≤ last_seqno }
+        ensures { IfOk result (λ broken. ForLedgers self.now (λ ledger.
+            broken ≡ broken_by_evidence digest.now (past_of ledger) entry.now)) }
+    {
+        if !self.is_signed() {
+            return Ok(Some(self.breach(12, entry)));
+        }
+        let wanted = match self.snapshot_digest() {
+            Ok(wanted) => wanted,
+            Err(OrNoMemory::NoMemory) => return Err(AllocError),
+            Err(OrNoMemory::Fault(_)) => return Ok(Some(self.breach(12, entry))),
+        };
+        if !same_bytes(digest, &wanted) {
+            return Ok(Some(replay(12, self.next_seqno(), wanted, *digest)));
+        }
+        Ok(None)
     }
 
     /// The root of the tree over all entries.

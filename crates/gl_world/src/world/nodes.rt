@@ -90,6 +90,7 @@ impl<N: WorldNode> Nodes<N> {
             | Event::Govern { node, .. }
             | Event::Reserve { node }
             | Event::Sign { node }
+            | Event::Evidence { node }
             | Event::Advance { node }
             | Event::Restart { node } => self.has_node(*node),
         }
@@ -112,6 +113,7 @@ impl<N: WorldNode> Nodes<N> {
             | Event::Govern { node, .. }
             | Event::Reserve { node }
             | Event::Sign { node }
+            | Event::Evidence { node }
             | Event::Replicate { node, .. }
             | Event::Advance { node }
             | Event::StepDown { node, .. }

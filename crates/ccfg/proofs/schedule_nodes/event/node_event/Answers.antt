@@ -22,6 +22,9 @@ returns-in-Reserve c = as_event c.args.ids.now (map seen_message c.args.sent.now
 pub returns-in-Sign : goal.returns-in-Sign
 returns-in-Sign c = as_event c.args.ids.now (map seen_message c.args.sent.now) c.args.event.now _ (Some served_events.Sign) c.in-Sign.is (refl, λ b x n. refl)
 
+pub returns-in-Evidence : goal.returns-in-Evidence
+returns-in-Evidence c = as_event c.args.ids.now (map seen_message c.args.sent.now) c.args.event.now _ (Some served_events.Evidence) c.in-Evidence.is (refl, λ b x n. refl)
+
 pub returns-in-Advance : goal.returns-in-Advance
 returns-in-Advance c = as_event c.args.ids.now (map seen_message c.args.sent.now) c.args.event.now _ (Some served_events.Advance) c.in-Advance.is (refl, λ b x n. refl)
 

@@ -5,6 +5,6 @@ pub returns : goal.returns
 returns c =
     let made = c.in_ok-state.ensures in
     record {
-      state = state_empty c.in_ok-state.state made.end made.signatures made.gov made.service_state made.identity made.tables made.from_start made.base made.peaks made.leaves;
+      state = state_empty c.in_ok-state.state made.end made.signatures made.views made.gov made.service_state made.identity made.tables made.from_start made.whole made.base made.peaks made.leaves;
       whole = record { tables = made.whole; base = made.base; peaks = made.peaks };
     }

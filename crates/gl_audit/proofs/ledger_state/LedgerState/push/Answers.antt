@@ -42,7 +42,7 @@ push_made-requires-clause-keyed c =
 pub returns-clause-grown : goal.returns-clause-grown
 returns-clause-grown c = λ ledger k unbroken.
     let done = c.in_ok-push_made.ensures in
-    state-push ledger c.args.self.now c.push_made.new.self c.args.entry.now k unbroken done.end done.signatures done.gov
+    state-push ledger c.args.self.now c.push_made.new.self c.args.entry.now k unbroken done.end done.signatures done.views done.gov
     (record { stands = done.tables; base = done.base; whole = done.whole }) (record { state_reported = done.state; identity_reported = done.identity }) done.leaves
 
 pub returns-clause-whole : goal.returns-clause-whole

@@ -15,4 +15,4 @@ root-requires c =
     omega (arith, count, some)
 
 pub returns : goal.returns
-returns c = λ ledger k. of_frontier c.args.self.now.frontier (leaves_of ledger) (λ leaves. c.root.result ≡ root_of leaves) k.tree c.root.ensures
+returns c = λ ledger k. of_frontier c.args.self.now.frontier (leaves_of ledger) (λ leaves. c.root.result ≡ root_of leaves) k.tree c.root.ensures.root

@@ -6,7 +6,7 @@ use Rattle.gl_audit.proofs.ledger_state.LedgerState.settle.Goals as goal
 
 pub returns-clause-state : goal.returns-clause-state
 returns-clause-state c = λ ledger k.
-    state_settled ledger c.args.self.now _ k refl refl refl refl refl c.compact.ensures.stands c.compact.ensures.exact.base c.len-len.result _ c.len-len.ensures c.in_ok-peaks.ensures.peaks c.in_ok-self.ensures.base (c.in_ok-self.ensures.peaks ∙ c.deref.ensures.value) c.in_ok-self.ensures.leaves
+    state_settled ledger c.args.self.now _ k refl refl refl refl refl refl c.compact.ensures.stands c.compact.ensures.exact.base c.len-len.result _ c.len-len.ensures c.compact.ensures.exact.compacted c.in_ok-peaks.ensures.peaks c.in_ok-self.ensures.base (c.in_ok-self.ensures.peaks ∙ c.deref.ensures.value) c.in_ok-self.ensures.leaves
 
 pub returns-clause-settled : goal.returns-clause-settled
 returns-clause-settled c = λ ledger k. record {

@@ -1,7 +1,7 @@
 use Rattle.std.proofs.Common.{length, ap, ◌∙◌, arith}
 use Rattle.std.proofs.lemmas.Result.{IfOk-weaker}
 use Rattle.gl_merkle.specs.Levels.{nodes_of, level_peaks}
-use Rattle.gl_merkle.proofs.FrontierLemmas.{HoldFirst-sized, leaves_above-count, peaks-are, peaks-count}
+use Rattle.gl_merkle.proofs.FrontierLemmas.{HoldFirst-sized, leaves_above-count, over-whole, peaks-count}
 use Rattle.gl_merkle.proofs.frontier.Frontier.peaks.Goals as goal
 
 pub peaks_of_levels-requires-clause-within : goal.peaks_of_levels-requires-clause-within
@@ -18,13 +18,19 @@ returns-clause-count c =
     (λ v e. ap length e ∙ ap (λ vs. length (level_peaks (nodes_of vs) f.base c.args.size)) c.deref.ensures.value ∙ peaks-count f.base f.peaks.items f.len f.limit c.args.size f.levels.items c.self.invariant c.ranges.size.fits)
     c.peaks_of_levels.ensures
 
-pub returns-clause-peaks : goal.returns-clause-peaks
-returns-clause-peaks c =
+pub returns-clause-over : goal.returns-clause-over
+returns-clause-over c =
     let f = c.self.inside in
     let count = leaves_above-count f.base f.peaks.items f.len f.limit f.levels.items c.self.invariant in
     let low = rw (← c.self.view_is) at c.requires.from_base in
     let high = rw (← c.self.view_is) at c.requires.within in
     IfOk-weaker c.peaks_of_levels.result _ _
-    (λ v e. rw (← c.self.view_is) (λ below is. e ∙ ap (λ vs. level_peaks (nodes_of vs) f.base c.args.size) c.deref.ensures.value
-    ∙ peaks-are f.base f.peaks.items f.len f.limit c.args.size f.levels.items below c.self.invariant c.ranges.size.fits low (omega (arith, count, high)) is.count is.peaks))
+    (λ v e. rw (← c.self.view_is) (e ∙ ap (λ vs. level_peaks (nodes_of vs) f.base c.args.size) c.deref.ensures.value ∙ c.self.invariant.over c.args.size low (omega (arith, count, high))))
     c.peaks_of_levels.ensures
+
+pub returns-clause-peaks : goal.returns-clause-peaks
+returns-clause-peaks c =
+    let f = c.args.self.now in
+    IfOk-weaker c.peaks_of_levels.result _ _
+    (λ v e below is. e ∙ over-whole f.base c.args.size f.peaks below f.leaves is.count is.peaks c.requires.from_base)
+    (returns-clause-over c)

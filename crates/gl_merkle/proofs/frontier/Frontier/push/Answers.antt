@@ -16,5 +16,5 @@ invariant_of-self c =
     let spare = rw (← c.self.view_is) at c.in_ok-make_room.ensures.ok in
     let items = with_items_is f.levels c.push_node.new.levels (omega arith) in
     let old = c.deref_mut.ensures.value in
-    rw items (AreLevels-push f.base f.peaks.items f.len f.limit f.levels.items c.push_node.new.levels c.args.leaf c.self.invariant (omega (arith, spare))
+    rw items (AreLevels-push f.base f.peaks.items f.len f.limit f.levels.items c.push_node.new.levels c.args.leaf c.self.invariant (omega (arith, spare)) (omega arith)
     (c.push_node.ensures.nodes ∙ ap (λ vs. with_node (nodes_of vs) c.args.leaf) old) (c.push_node.ensures.rooms ∙ ap rooms_of old))

@@ -1,6 +1,6 @@
 use Rattle.std.proofs.Common.{None, ap, sym, ◌∙◌, arith}
 use Rattle.gl_merkle.specs.Levels.{nodes_of, tail_of}
-use Rattle.gl_merkle.proofs.FrontierLemmas.{HoldFirst-sized, leaves_above-count, root-some, root-is}
+use Rattle.gl_merkle.proofs.FrontierLemmas.{HoldFirst-sized, leaves_above-count, root-over, root-whole}
 use Rattle.gl_merkle.proofs.frontier.Frontier.root.Goals as goal
 
 pub root_of_levels-requires-clause-within : goal.root_of_levels-requires-clause-within
@@ -13,15 +13,18 @@ unwrap-requires c =
     let f = c.self.inside in
     let count = leaves_above-count f.base f.peaks.items f.len f.limit f.levels.items c.self.invariant in
     let some = rw (← c.self.view_is) at c.requires in
-    rw (c.root_of_levels.ensures, c.deref.ensures.value) (root-some f.base f.peaks.items f.len f.limit f.levels.items c.self.invariant (omega arith) (omega (arith, count, some)))
+    rw (c.root_of_levels.ensures, c.deref.ensures.value, root-over f.base f.peaks.items f.len f.limit f.levels.items c.self.invariant (omega arith) (omega (arith, count, some)))
 
-pub returns : goal.returns
-returns c =
+pub returns-clause-over : goal.returns-clause-over
+returns-clause-over c =
     let f = c.self.inside in
     let count = leaves_above-count f.base f.peaks.items f.len f.limit f.levels.items c.self.invariant in
     let some = rw (← c.self.view_is) at c.requires in
     let read = c.root_of_levels.ensures ∙ ap (λ vs. tail_of (nodes_of vs) f.base f.len None) c.deref.ensures.value in
-    rw (← c.self.view_is) (λ below is.
-    let whole = root-is f.base f.peaks.items f.len f.limit f.levels.items below c.self.invariant (omega arith) (omega (arith, count, some)) is.count is.peaks in
-    let both = sym c.unwrap.ensures ∙ read ∙ whole in
-    cc)
+    let both = sym c.unwrap.ensures ∙ read ∙ root-over f.base f.peaks.items f.len f.limit f.levels.items c.self.invariant (omega arith) (omega (arith, count, some)) in
+    rw (← c.self.view_is) cc
+
+pub returns-clause-root : goal.returns-clause-root
+returns-clause-root c =
+    let f = c.args.self.now in
+    λ below is. returns-clause-over c ∙ root-whole f.base f.peaks below f.leaves is.count is.peaks

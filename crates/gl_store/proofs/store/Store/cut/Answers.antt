@@ -34,6 +34,6 @@ invariant_of-self c =
     let within : c.args.to ≤ length ledger = subst (λ (h : Held). c.args.to ≤ length h.ledger) (sym c.self.view_is) c.requires.within in
     let left : c.truncate.new.self.items ≡ take c.args.to ledger = c.truncate.ensures.items in
     kept-cut ledger c.truncate.new.self.items _ c.args.to c.cut.new.self c.self.invariant committed within left
-    (state-cut ledger k.state c.cut.new.self c.args.to c.self.invariant.stands w within (done.end ∙ c.of.ensures ∙ ap end_of (c.deref.ensures.value ∙ left)) done.signatures done.gov done.tables done.base
+    (state-cut ledger k.state c.cut.new.self c.args.to c.self.invariant.stands w within (done.end ∙ c.of.ensures ∙ ap end_of (c.deref.ensures.value ∙ left)) done.signatures done.views done.gov done.tables done.base done.whole
     (record { state_reported = done.state; identity_reported = done.identity }) done.leaves)
     (record { tables = done.whole ∙ w.tables; base = done.leaves.base ∙ w.base; peaks = done.leaves.peaks ∙ w.peaks })

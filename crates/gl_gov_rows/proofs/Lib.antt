@@ -1,0 +1,6 @@
+mod Ballots
+mod Actions
+mod NodesByNumber
+mod Spelled
+mod RowKinds
+mod Gathered

@@ -1,0 +1,3 @@
+pub mod Parsing
+pub mod Snapshot
+pub mod Verdict

@@ -32,7 +32,7 @@ SECTION = re.compile(r"\((?:section )?(\d+\.\d+[\d.]*(?: and \d+\.\d+[\d.]*)?|(?
 
 def crates():
     lines = (TOP / "crates.txt").read_text().splitlines()
-    return [line.split(":")[0] for line in lines if ":" in line and not line.startswith("#")]
+    return [line.split(":")[0].split()[0] for line in lines if ":" in line and not line.startswith("#")]
 
 
 def about(crate):

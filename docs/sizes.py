@@ -10,7 +10,7 @@ TESTS = re.compile(r"#\[cfg\(test\)\]\s*(?:pub )?mod (\w+)")
 
 def crates():
     lines = (TOP / "crates.txt").read_text().splitlines()
-    return [line.split(":")[0] for line in lines if ":" in line and not line.startswith("#")]
+    return [line.split(":")[0].split()[0] for line in lines if ":" in line and not line.startswith("#")]
 
 
 def lines_of(files):

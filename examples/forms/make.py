@@ -1,5 +1,5 @@
 #!/usr/bin/env -S python3 -B
-"""Prints the JSON texts that the tests of `crates/t_data` read: with Python's `json` alone.
+"""Prints the JSON texts that the tests of `crates/t_forms` read: with Python's `json` alone.
 
     make.py
 

@@ -5,7 +5,7 @@
 
 It prints the bytes of a request of each kind, as runs of one byte: (byte, count). Then come what a
 member signs for the ballot, the actions without their count, a dealing, and two identifiers, a node's
-and a proposal's. The tests of crates/t_data hold the same bytes.
+and a proposal's. The tests of crates/t_nodes hold the same bytes.
 """
 
 import hashlib

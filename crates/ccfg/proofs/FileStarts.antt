@@ -31,12 +31,12 @@ use Rattle.gl_world.proofs.NodeIds.{number_is}
 use Rattle.gl_store_book.specs.AtOpening.{append_records}
 use Rattle.ccfg.specs.FileNodes.{IsFileIn, IsMemoryFile, SeenFileNode, StandsOverFile}
 use Rattle.gl_store_book.specs.Frames.{goes_on_ledger}
-use Rattle.gl_store_book.specs.Stands.{NodeStore, Stands}
+use Rattle.gl_store_book.specs.Stands.{NodeStore, Stands, no_snapshot}
 use Rattle.gl_store_book.proofs.Batches.{before}
 use Rattle.gl_store_book.proofs.FrameLaws.{AllFit}
 use Rattle.gl_store_book.proofs.OpeningFolds.{appends_fold}
 use Rattle.gl_store_book.proofs.OpeningSizes.{append_len, records_bytes-append}
-use Rattle.gl_store_book.proofs.ServedNodes.{holds_whole, ledger_in}
+use Rattle.gl_store_book.proofs.ServedNodes.{held_in, holds_whole}
 
 -- ---- the frames of a ledger
 
@@ -137,15 +137,15 @@ module _ (s : Settings) (h : IsGroup s) (number : ℕ) (low : 1 ≤ number) (hig
   }
 
   pub serving_at_start : (journal : Journal HeldDisk) (n : Node Entry) → StandsFor Stands core (book_of s) (id_of s number) n → IsMemoryFile journal (state_at_start s number core) →
-      IsServing Stands ledger_in goes_on_ledger true (λ (disk : HeldDisk). disk.bytes) (λ (disk : HeldDisk). disk.past) core journal
+      IsServing Stands held_in no_snapshot goes_on_ledger true (λ (disk : HeldDisk). disk.bytes) (λ (disk : HeldDisk). disk.past) core journal
   serving_at_start journal n stood file = record {
     some = record { rules = book_of s; me = id_of s number; node = n; standing = stood };
-    whole = holds_whole core.book;
+    above = holds_whole core.book;
     file = λ honest. record {
       kept = file.kept honest;
       state = state_at_start s number core;
       opens = file.opens honest;
-      keeps = record { view = refl; vote = refl; base = refl; log = refl; reserved = refl };
+      keeps = record { view = refl; vote = refl; base = refl; snapshot = refl; log = refl; reserved = refl };
       leaves = refl;
     };
   }

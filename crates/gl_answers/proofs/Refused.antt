@@ -21,6 +21,7 @@ seen_as (refusals.BelowCommit commit seqno) o r seen answers = cc
 seen_as refusals.NotPeer o r seen answers = cc
 seen_as (refusals.BelowBase base) o r seen answers = cc
 seen_as refusals.ViewLimit o r seen answers = cc
+seen_as (refusals.NoLaterSignature commit) o r seen answers = cc
 seen_as (refusals.ByLedger why) o r seen answers = cc
 
 some_mapped : {A B : Type 0} (f : A → B) (x : Option A) (y : B) → Some y ≡ option_map f x → (a : A) × (y ≡ f a) × (x ≡ Some a)

@@ -136,4 +136,5 @@ seen_refusal (refusals.BelowCommit commit seqno) = Some (rules.BelowCommit commi
 seen_refusal refusals.NotPeer = Some rules.NotPeer
 seen_refusal (refusals.BelowBase base) = Some (rules.BelowBase base)
 seen_refusal refusals.ViewLimit = Some rules.ViewLimit
+seen_refusal (refusals.NoLaterSignature commit) = Some (rules.NoLaterSignature commit)
 seen_refusal (refusals.ByLedger why) = Some (rules.ByLedger why)

@@ -5,10 +5,11 @@ use Rattle.gl_ledger.specs.ServiceRow.{identity_in}
 use Rattle.gl_ledger.specs.Tree.{leaves_of, tables_of}
 use Rattle.gl_receipt.specs.Made.{Ledger}
 
--- The ledger with its leaves and the service's keys, committed up to a seqno.
-abbrev pub receipts_of : List Entry → ℕ → Ledger
-receipts_of ledger commit = record {
-  base = 0;
+-- The ledger with its leaves and the service's keys, committed up to a seqno: of the entries up to
+-- the base the views alone are still known.
+abbrev pub receipts_of : ℕ → List Entry → ℕ → Ledger
+receipts_of base ledger commit = record {
+  base = base;
   entries = ledger;
   leaves = leaves_of ledger;
   commit = commit;

@@ -26,7 +26,7 @@ pub trait ClientBook: Book<
     /// documentation, "Receipts").
     fn receipt(&self, commit: u64, id: TxId) -> Result<Receipt, OrNoMemory<MakeFault>>
         ensures { At Self.stands self.now (λ b h.
-            Answers (λ r. r) result (receipt_of (receipts_of h.log commit) id)) };
+            Answers (λ r. r) result (receipt_of (receipts_of h.base h.log commit) id)) };
 
     /// What the ledger has and gives keeps the limits of the formats: a law of the store, of which
     /// nothing runs.

@@ -133,6 +133,7 @@ pub fn reason_of<B: Book<Refused = Rejection>>(
         Refusal::NotPeer => Reason::numbers(alloc, 126, &[])?,
         Refusal::BelowBase(base) => Reason::numbers(alloc, 127, &[*base])?,
         Refusal::ViewLimit => Reason::numbers(alloc, 128, &[])?,
+        Refusal::NoLaterSignature(commit) => Reason::numbers(alloc, 81, &[*commit])?,
         Refusal::ByLedger(why) => rejected_reason(alloc, *why)?,
     };
     Ok(Some(reason))

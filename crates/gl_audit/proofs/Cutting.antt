@@ -6,6 +6,7 @@ use Rattle.std.specs.List.{AllByRecursion}
 use Rattle.std.proofs.lemmas.List.{take-take, append-nil}
 use Rattle.std.proofs.lemmas.List.Elements.{filter-append}
 use Rattle.gl_base.proofs.Lists.{slice_get-take, slice_get-of_take}
+use Rattle.gl_vmaps.specs.Rows.{row_writes, tables_with}
 use Rattle.gl_vmaps.specs.Tables.{Tables, no_tables, wrote_all}
 use Rattle.gl_vmaps.specs.Versions.{Placed, placed_at, up_to}
 use Rattle.gl_vmaps.specs.declared.write.Write.{Write}
@@ -18,10 +19,12 @@ use Rattle.gl_requests.specs.declared.request.GovernanceRequest.{GovernanceReque
 use Rattle.gl_gov_rules.specs.declared.change.Recorded.{Recorded}
 use Rattle.gl_gov_rules.specs.Governed as governed
 use Rattle.gl_gov_rules.proofs.RequestsUpTo.{up_to-all}
+use Rattle.gl_snapshot_body.specs.declared.body.Body.{Body}
 use Rattle.gl_ledger.specs.Recordings.{recorded_at, recorded_in, requests_from, requests_of}
 use Rattle.gl_ledger.specs.ServiceRow.{identity_in}
 use Rattle.gl_ledger.specs.Tree.{writes_of, leaves_from, leaves_of}
 use Rattle.gl_ledger.specs.Serial.{IsLedger}
+use Rattle.gl_ledger.specs.Snapshot.{leaves_over, requests_over, writes_over}
 use Rattle.gl_ledger.specs.Signed.{IsSignedUpTo}
 use Rattle.gl_ledger.specs.Layers.{Layers}
 use Rattle.gl_ledger.specs.Broken.{broken}
@@ -71,6 +74,13 @@ pub writes_of-take : (ledger : List Entry) (to : ℕ) → IsLedger ledger → wr
 writes_of-take ledger to h =
     writes_from-take 0 ledger to (λ i e at. h.seqnos i e at ∙ omega arith) ∙ ap (λ (k : ℕ). up_to k (writes_of ledger)) (omega arith)
 
+-- the writes behind a base up to a seqno that isn't below it; those of the body's rows come at 0
+pub writes_over-take : (body : Body) (es : List Entry) (to : ℕ) → CountFrom (suc body.base) es → body.base ≤ to → writes_over body (take (to - body.base) es) ≡ up_to to (writes_over body es)
+writes_over-take body es to count low =
+    ap₂ (λ (ps qs : List Placed). ps ++ qs) (sym (placed_within to 0 (row_writes body.rows) (omega arith)))
+    (writes_from-take body.base es (to - body.base) count ∙ ap (λ (k : ℕ). up_to k (writes_of es)) (let same : body.base + (to - body.base) ≡ to = omega (arith, low) in same))
+    ∙ sym (filter-append (λ (p : Placed). nat_le p.place to) (placed_at 0 (row_writes body.rows)) (writes_of es))
+
 -- ---- requests of governance
 
 -- an entry's request has the entry's seqno
@@ -114,6 +124,11 @@ requests_from-take n (e ∷ es) (suc to) =
 pub requests_of-take : (ledger : List Entry) (to : ℕ) → requests_of (take to ledger) ≡ governed.up_to to (requests_of ledger)
 requests_of-take ledger to = requests_from-take 0 ledger to ∙ ap (λ (k : ℕ). governed.up_to k (requests_of ledger)) (omega arith)
 
+-- and of those behind a base
+pub requests_over-take : (body : Body) (es : List Entry) (to : ℕ) → body.base ≤ to → requests_over body (take (to - body.base) es) ≡ governed.up_to to (requests_over body es)
+requests_over-take body es to low =
+    requests_from-take body.base es (to - body.base) ∙ ap (λ (k : ℕ). governed.up_to k (requests_over body es)) (let same : body.base + (to - body.base) ≡ to = omega (arith, low) in same)
+
 -- a request with this seqno goes where those before it are below
 pub taken_back : (seqno : ℕ) (rs : List Recorded) (c : Content) → 0 < seqno → governed.IsAbove seqno rs → governed.up_to (seqno - 1) (rs ++ recorded_in seqno c) ≡ rs
 taken_back seqno rs c some all =
@@ -135,6 +150,9 @@ leaves_from-take t (e ∷ es) (suc to) =
 -- each entry keeps its leaf
 pub leaves_of-take : (ledger : List Entry) (to : ℕ) → leaves_of (take to ledger) ≡ take to (leaves_of ledger)
 leaves_of-take ledger to = leaves_from-take no_tables ledger to
+
+pub leaves_over-take : (body : Body) (es : List Entry) (to : ℕ) → leaves_over body (take to es) ≡ take to (leaves_over body es)
+leaves_over-take body es to = leaves_from-take (tables_with body.rows) es to
 
 -- ---- rules
 

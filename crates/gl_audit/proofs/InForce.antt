@@ -23,7 +23,7 @@ use Rattle.gl_ledger.proofs.Founded.{length_identity}
 use Rattle.gl_ledger.proofs.LedgerPrefixes.{sound_prefix}
 use Rattle.gl_receipt.specs.Made.{at_seqno, entry_at}
 use Rattle.gl_audit.specs.Kept.{key_of}
-use Rattle.gl_audit.proofs.KeptLedgers.{none_of}
+use Rattle.gl_audit.proofs.PastOver.{none_of}
 
 -- ---- leaves
 

@@ -7,11 +7,13 @@ use Rattle.gl_rules.specs.Log.{entry_at}
 use Rattle.gl_entry.specs.declared.entry.Entry.{Entry}
 use Rattle.gl_ledger.specs.NodeKeys.{service_layers}
 use Rattle.gl_ledger.specs.Recordings.{last_entry}
-use Rattle.gl_ledger.specs.Broken.{broken}
+use Rattle.gl_ledger.specs.Broken.{broken, broken_over}
 use Rattle.gl_ledger.specs.Audit.{audited}
 use Rattle.gl_ledger.proofs.Auditing.{audited_none}
-use Rattle.gl_ledger.proofs.Passing.{passing}
+use Rattle.gl_snapshot_body.specs.Body.{no_body}
+use Rattle.gl_snapshot_body.specs.declared.body.Body.{Body}
 use Rattle.gl_audit.specs.Ends.{IsRead}
+use Rattle.gl_ledger.proofs.Passing.{passing_over}
 
 -- ---- which is the last
 
@@ -31,8 +33,11 @@ last_of_take ledger (suc i) within =
 -- ---- that it is read
 
 -- an entry that breaks no rule is read
+pub unbroken_over : (body : Body) (es : List Entry) (e : Entry) → broken_over service_layers body es e ≡ None → IsRead e
+unbroken_over body es e unbroken = λ none. let reads = sym (passing_over service_layers body es e unbroken).reads ∙ none in cc
+
 pub unbroken_read : (ledger : List Entry) (e : Entry) → broken service_layers ledger e ≡ None → IsRead e
-unbroken_read ledger e unbroken = λ none. let reads = sym (passing service_layers ledger e unbroken).reads ∙ none in cc
+unbroken_read ledger e unbroken = unbroken_over no_body ledger e unbroken
 
 -- so each one of a valid ledger is
 pub entry_read : (ledger : List Entry) → audited service_layers ledger ≡ None → (seqno : ℕ) → IfSome (entry_at ledger seqno) IsRead

@@ -1,8 +1,17 @@
+pub mod NoBase
+pub mod TablesOver
+pub mod SnapshotOver
+pub mod GovernanceBehind
+pub mod KeyAtBase
+pub mod KeyBehind
+pub mod TreeOver
+pub mod PastOver
 pub mod GovStates
 pub mod Ends
 pub mod TablesLaws
 pub mod SignatureSeqnos
 pub mod ViewStarts
+pub mod ViewsAt
 pub mod GreatestCommits
 pub mod Snapshots
 pub mod LastEntries

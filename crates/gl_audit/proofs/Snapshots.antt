@@ -1,41 +1,36 @@
--- The body of a snapshot, by what is kept of a ledger; and how many bytes a body has.
-use Rattle.std.proofs.Common.{rules, ◌≡◌, IsTrue, ℕ, suc, ◌+◌, ◌*◌, ◌^◌, ◌<◌, ◌≤◌, nat_le, nat_lt, ◌&&◌, Bool, true, false, List, [], ◌∷◌, ◌++◌, map, length, take, Option, Some, None, count_ones, refl, sym, ◌∙◌, ap, ap₂, subst, arith, length-append}
-use Rattle.std.specs.List.{flat_map}
-use Rattle.std.proofs.lemmas.Bool.{and_from}
-use Rattle.std.proofs.lemmas.Bool.Decides.{nat_tests}
-use Rattle.std.proofs.lemmas.List.{map-append}
-use Rattle.std.proofs.lemmas.Nat.{ones-le}
+-- The body of a snapshot, by what is kept of entries.
+use Rattle.std.proofs.Common.{◌≡◌, ℕ, zero, suc, ◌+◌, ◌-◌, ◌≤◌, true, List, [], ◌∷◌, ◌++◌, map, max, length, take, refl, sym, ◌∙◌, ap, ap₂, arith}
+use Rattle.std.specs.List.{flat_map, list_all}
+use Rattle.std.proofs.lemmas.Bool.{and_parts}
+use Rattle.std.proofs.lemmas.List.{map-append, length-take-le}
 use Rattle.std.proofs.Math.Seq.{take-length}
-use Rattle.gl_base.specs.Bytes.{same_bytes}
-use Rattle.gl_base.specs.TxId.{last_seqno}
-use Rattle.gl_base.proofs.LittleEndianLaws.{length-little_endian}
-use Rattle.gl_merkle.specs.Frontier as frontiers
-use Rattle.gl_merkle.specs.Peaks.{peaks_of, peaks_within, peaks_over}
-use Rattle.gl_merkle.proofs.MorePeaks.{peaks_of-more}
-use Rattle.gl_vmaps.specs.Rows.{row_writes, rows_over, are_ascending}
-use Rattle.gl_vmaps.specs.Standing.{StandsFor}
+use Rattle.gl_base.proofs.Lists.{take-past}
+use Rattle.gl_merkle.specs.Peaks.{peaks_over}
+use Rattle.gl_vmaps.specs.Rows.{rows_over, are_ascending}
 use Rattle.gl_vmaps.specs.Versions.{Placed, placed_at, up_to, writes_up_to}
 use Rattle.gl_vmaps.specs.declared.row.Row.{Row}
 use Rattle.gl_vmaps.specs.declared.write.Write.{Write}
-use Rattle.gl_entry.specs.Leaf.{id_of}
 use Rattle.gl_entry.specs.declared.entry.Entry.{Entry}
-use Rattle.gl_snapshot_body.specs.Body.{row_bytes, head_bytes, body_bytes, snapshot_limit, is_counted}
+use Rattle.gl_snapshot_body.specs.Body.{are_rows, is_row}
 use Rattle.gl_snapshot_body.specs.declared.body.Body.{Body}
 use Rattle.gl_snapshot_body.specs.declared.body.ViewStart.{ViewStart}
-use Rattle.gl_snapshot_body.proofs.Sizes.{length-head_bytes}
-use Rattle.gl_ledger.specs.Recordings.{last_entry}
-use Rattle.gl_ledger.specs.Serial.{IsLedger}
-use Rattle.gl_ledger.specs.Snapshot.{view_or, greatest_from, starts_from, snapshot_of}
-use Rattle.gl_ledger.specs.Tree.{writes_of, leaves_of}
-use Rattle.gl_ledger.proofs.TablesLaws.{length-leaves_of}
-use Rattle.gl_audit.specs.Ends.{view_of}
-use Rattle.gl_audit.specs.Kept.{IsStateOf}
+use Rattle.gl_snapshot_body.proofs.BodyLaws.{parts_of}
+use Rattle.gl_ledger.specs.NodeKeys.{service_layers}
+use Rattle.gl_ledger.specs.Snapshot.{all_peaks, leaves_over, snapshot_over}
+use Rattle.gl_ledger.specs.Tree.{writes_of}
+use Rattle.gl_ledger.specs.Behind.{IsReadAt, IsReadBody}
+use Rattle.gl_audit.specs.Ends.{end_over, view_of}
+use Rattle.gl_audit.specs.Kept.{starts_up_to, IsStateOver}
 use Rattle.gl_audit.specs.declared.ledger_end.LedgerEnd.{LedgerEnd}
 use Rattle.gl_audit.specs.declared.ledger_state.LedgerState.{LedgerState}
-use Rattle.gl_audit.proofs.Cutting.{writes_of-take}
-use Rattle.gl_audit.proofs.GreatestCommits.{greatest_last}
-use Rattle.gl_audit.proofs.TablesLaws.{of_frontier}
-use Rattle.gl_audit.proofs.ViewStarts.{view_named}
+use Rattle.gl_audit.proofs.Cutting.{CountFrom, leaves_over-take, writes_from-take}
+use Rattle.gl_ledger.proofs.EachPassing.{over-take}
+use Rattle.gl_audit.proofs.Ends.{commit_over, view_over}
+use Rattle.gl_audit.proofs.GovernanceBehind.{numbered_over}
+use Rattle.gl_audit.proofs.GreatestCommits.{greatest_over}
+use Rattle.gl_audit.proofs.PastOver.{count_kept, end_len}
+use Rattle.gl_audit.proofs.TreeOver.{all_peaks_over, peaks_up_to}
+use Rattle.gl_audit.proofs.ViewStarts.{starts_over-take}
 
 -- ---- the rows
 
@@ -50,12 +45,27 @@ all_writes (e ∷ es) =
     map-append (λ (p : Placed). p.write) (placed_at e.seqno e.writes) (writes_of es)
     ∙ ap₂ (λ (vs ws : List Write). vs ++ ws) (placed_writes e.seqno e.writes) (all_writes es)
 
--- the writes of a ledger up to its length are all
-written_up_to : (ledger : List Entry) (len : ℕ) → IsLedger ledger → len ≡ length ledger → writes_up_to len (writes_of ledger) ≡ flat_map (λ (e : Entry). e.writes) ledger
-written_up_to ledger len h at =
+-- the writes of entries behind a base up to the last one are all
+written_up_to : (base : ℕ) (es : List Entry) (len : ℕ) → CountFrom (suc base) es → len ≡ base + length es → writes_up_to len (writes_of es) ≡ flat_map (λ (e : Entry). e.writes) es
+written_up_to base es len count at =
     ap (map (λ (p : Placed). p.write))
-    (ap (λ (n : ℕ). up_to n (writes_of ledger)) at ∙ sym (writes_of-take ledger (length ledger) h) ∙ ap writes_of (take-length ledger))
-    ∙ all_writes ledger
+    (ap (λ (n : ℕ). up_to n (writes_of es)) at ∙ sym (writes_from-take base es (length es) count) ∙ ap writes_of (take-length es))
+    ∙ all_writes es
+
+-- and those up to a seqno are all of the entries up to it
+written_in : (base : ℕ) (es : List Entry) (to : ℕ) → CountFrom (suc base) es → base ≤ to → writes_up_to to (writes_of es) ≡ flat_map (λ (e : Entry). e.writes) (take (to - base) es)
+written_in base es to count low =
+    ap (map (λ (p : Placed). p.write))
+    (ap (λ (n : ℕ). up_to n (writes_of es)) (let same : to ≡ base + (to - base) = omega (arith, low) in same) ∙ sym (writes_from-take base es (to - base) count))
+    ∙ all_writes (take (to - base) es)
+
+-- the rows of a body that was read ascend
+pub rows_ascending : (body : Body) → IsReadBody body → are_ascending body.rows ≡ true
+rows_ascending body read = go body.base read
+  where
+    go : (n : ℕ) → IsReadAt n body → are_ascending body.rows ≡ true
+    go zero none = ap (λ (b : Body). are_ascending b.rows) none
+    go (suc n) b = (and_parts (list_all is_row body.rows) (are_ascending body.rows) (and_parts _ (are_rows body.rows) (parts_of body b.fits).rows).1).1
 
 -- ---- the body
 
@@ -70,53 +80,56 @@ body_made body base view commit views peaks rows is_base is_view is_commit is_vi
     ∙ ap₂ (λ (a : ℕ) (b : List ViewStart). body_with base view a b body.peaks body.rows) is_commit is_views
     ∙ ap₂ (λ (a : List (List ℕ)) (b : List Row). body_with base view commit views a b) is_peaks is_rows
 
--- the body with what is kept of a ledger is that of its snapshot
-pub snapshot_kept : (ledger : List Entry) (s : LedgerState) (body : Body) → IsStateOf ledger s → body.base ≡ s.end.len → body.view ≡ view_of s.end.last → body.commit ≡ s.end.commit →
-    body.views ≡ s.views.items → frontiers.ForLeaves s.frontier (λ leaves. body.peaks ≡ peaks_of (take s.end.len leaves)) →
-    ((before : List Row) (ps : List Placed) → IsTrue (are_ascending before) → StandsFor s.tables (placed_at 0 (row_writes before) ++ ps) → body.rows ≡ rows_over before (writes_up_to s.end.len ps)) →
-    body ≡ snapshot_of ledger
-unfolding peaks_of peaks_within
-snapshot_kept ledger s body k base view commit views peaks rows =
-    body_made body _ _ _ _ _ _ (base ∙ (omega (arith, len))) (view ∙ ap (λ (end : LedgerEnd). view_of end.last) k.ends ∙ view_named 0 (last_entry ledger) refl)
-    (commit ∙ ap (λ (end : LedgerEnd). end.commit) k.ends ∙ sym (greatest_last ledger k.valid)) (views ∙ k.views)
-    (of_frontier s.frontier (leaves_of ledger) (λ leaves. body.peaks ≡ peaks_of (take s.end.len leaves)) k.tree peaks
-    ∙ ap peaks_of (ap (λ (n : ℕ). take n (leaves_of ledger)) (len ∙ sym (length-leaves_of ledger)) ∙ take-length (leaves_of ledger)) ∙ peaks_of-more [] (leaves_of ledger))
-    (rows [] (writes_of ledger) refl k.tables_are ∙ ap (rows_over []) (written_up_to ledger s.end.len k.sound.in_order len))
+-- the peaks of all leaves that are kept are those of all entries
+pub peaks_kept : (before : Body) (es : List Entry) (s : LedgerState) (peaks : List (List ℕ)) → IsStateOver before es s →
+    peaks ≡ peaks_over s.frontier.base s.frontier.peaks (take (s.end.len - s.frontier.base) s.frontier.leaves) → peaks ≡ all_peaks before es
+peaks_kept before es s peaks k are =
+    let count = count_kept before es s k in
+    are ∙ ap (peaks_over s.frontier.base s.frontier.peaks) (take-past s.frontier.leaves (s.end.len - s.frontier.base) (omega (arith, count)))
+    ∙ all_peaks_over before (leaves_over before es) s.frontier k.tree
+
+-- the body with what is kept of entries is that of their snapshot
+pub snapshot_kept : (before : Body) (es : List Entry) (s : LedgerState) (body : Body) → IsStateOver before es s → body.base ≡ s.end.len → body.view ≡ view_of s.end.last →
+    body.commit ≡ max s.base_commit s.end.commit → body.views ≡ s.views.items →
+    body.peaks ≡ all_peaks before es →
+    body.rows ≡ rows_over before.rows (writes_up_to s.end.len (writes_of es)) → body ≡ snapshot_over before es
+snapshot_kept before es s body k base view commit views peaks rows =
+    body_made body _ _ _ _ _ _ (base ∙ len) (view ∙ ap (λ (end : LedgerEnd). view_of end.last) k.ends ∙ view_over before es k.read)
+    (commit ∙ ap₂ max k.base_commit_is (ap (λ (end : LedgerEnd). end.commit) k.ends ∙ commit_over before es k.read) ∙ sym (greatest_over before es k.read k.valid)) (views ∙ k.views)
+    peaks
+    (rows ∙ ap (rows_over before.rows) (written_up_to before.base es s.end.len numbered len))
   where
-    len : s.end.len ≡ length ledger
-    len = ap (λ (end : LedgerEnd). end.len) k.ends
+    len : s.end.len ≡ before.base + length es
+    len = end_len before es s k
 
--- ---- sizes
+    numbered : CountFrom (suc before.base) es
+    numbered i e at = let place = numbered_over service_layers before es k.valid i e at in omega (arith, place)
 
-each_row : (rs : List Row) → length rs ≤ length (flat_map row_bytes rs)
-each_row [] = omega arith
-each_row (r ∷ rs) = omega (arith, each_row rs, length-append (row_bytes r) (flat_map row_bytes rs), row_long r)
+-- ---- up to a seqno
+
+-- the entries up to the last one are all
+pub all_taken : (before : Body) (es : List Entry) (s : LedgerState) → IsStateOver before es s → take (s.end.len - before.base) es ≡ es
+all_taken before es s k = let len = end_len before es s k in take-past es (s.end.len - before.base) (omega (arith, len))
+
+-- the body with what is kept up to a seqno, where the entries up to it end so, is that of their snapshot
+pub snapshot_cut : (before : Body) (es : List Entry) (s : LedgerState) (body : Body) (to : ℕ) (end : LedgerEnd) → IsStateOver before es s → s.frontier.base ≤ to → to ≤ s.end.len →
+    end ≡ end_over before (take (to - before.base) es) → body.base ≡ to → body.view ≡ view_of end.last →
+    body.commit ≡ max s.base_commit end.commit → body.views ≡ starts_up_to to s.views.items →
+    body.peaks ≡ peaks_over s.frontier.base s.frontier.peaks (take (to - s.frontier.base) s.frontier.leaves) →
+    body.rows ≡ rows_over before.rows (writes_up_to to (writes_of es)) → body ≡ snapshot_over before (take (to - before.base) es)
+snapshot_cut before es s body to end k low within ends base view commit views peaks rows =
+    body_made body _ _ _ _ _ _ (base ∙ (let at : to ≡ before.base + length (take (to - before.base) es) = omega (arith, long, above) in at)) (view ∙ ap (λ (end : LedgerEnd). view_of end.last) ends ∙ view_over before (take (to - before.base) es) k.read)
+    (commit ∙ ap₂ max k.base_commit_is (ap (λ (end : LedgerEnd). end.commit) ends ∙ commit_over before (take (to - before.base) es) k.read)
+    ∙ sym (greatest_over before (take (to - before.base) es) k.read (over-take service_layers before es (to - before.base) k.valid)))
+    (views ∙ ap (starts_up_to to) k.views ∙ sym (starts_over-take before es to k.read numbered above))
+    (peaks ∙ peaks_up_to before (leaves_over before es) s.frontier k.tree to low ∙ ap (peaks_over before.base before.peaks) (sym (leaves_over-take before es (to - before.base))))
+    (rows ∙ ap (rows_over before.rows) (written_in before.base es to numbered above))
   where
-    row_long : (r : Row) → 1 ≤ length (row_bytes r)
-    row_long r = simp (length-append, length-little_endian) (omega arith)
+    above : before.base ≤ to
+    above = let from = k.tree.from_base in omega (arith, from, low)
 
--- a body of which four bytes don't hold each count has more bytes than a snapshot may have
-pub uncounted_long : (b : Body) → is_counted b ≡ false → length b.peaks < 2 ^ 32 → nat_le (length (body_bytes b)) snapshot_limit ≡ false
-uncounted_long b not_so few = go (nat_lt (length b.views) (2 ^ 32)) (nat_lt (length b.rows) (2 ^ 32)) refl refl
-  where
-    long : length (body_bytes b) ≡ length (head_bytes b) + length (flat_map row_bytes b.rows)
-    long = length-append (head_bytes b) (flat_map row_bytes b.rows)
+    long : length (take (to - before.base) es) ≡ to - before.base
+    long = let len = end_len before es s k in length-take-le (to - before.base) es (omega (arith, len, within))
 
-    peaks : nat_lt (length b.peaks) (2 ^ 32) ≡ true
-    peaks = grind (arith, nat_tests, few)
-
-    go : (v r : Bool) → nat_lt (length b.views) (2 ^ 32) ≡ v → nat_lt (length b.rows) (2 ^ 32) ≡ r → nat_le (length (body_bytes b)) snapshot_limit ≡ false
-    go false r views rows = let head = length-head_bytes b in grind (arith, nat_tests, long, head, views)
-    go true false views rows = let each = each_row b.rows in grind (arith, nat_tests, long, each, rows)
-    go true true views rows = absurd (let w : is_counted b ≡ true = and_from _ _ (and_from _ _ views peaks) rows in cc)
-
-pub counted_within : (b : Body) → length b.peaks < 2 ^ 32 → nat_le (length (body_bytes b)) snapshot_limit ≡ true → IsTrue (is_counted b)
-counted_within b few within = go (is_counted b) refl
-  where
-    go : (t : Bool) → is_counted b ≡ t → IsTrue t
-    go true is = search rules
-    go false is = absurd (let long = uncounted_long b is few in cc)
-
--- a tree of leaves with seqnos has few peaks
-pub few_peaks : (n peaks : ℕ) → n ≤ last_seqno → peaks ≡ count_ones n → peaks < 2 ^ 32
-few_peaks n peaks named is = let few : count_ones n ≤ 64 = ones-le 64 n (omega (arith, named)) in omega (arith, few, is)
+    numbered : CountFrom (suc before.base) es
+    numbered i e at = let place = numbered_over service_layers before es k.valid i e at in omega (arith, place)

@@ -1,63 +1,48 @@
--- Where the views of entries start: of those with one more entry, and of cut ones.
-use Rattle.std.proofs.Common.{◌≡◌, ℕ, zero, suc, ◌+◌, ◌-◌, ◌<◌, List, [], ◌∷◌, ◌++◌, length, take, slice_get, Option, Some, None, Bool, true, false, cond, if◌then◌else◌, nat_le, ◌==◌, option_map, refl, sym, ◌∙◌, ap, arith}
+-- Where the views of cut entries start.
+use Rattle.std.proofs.Common.{◌≡◌, ℕ, zero, suc, ◌+◌, ◌-◌, ◌<◌, ◌≤◌, List, [], ◌∷◌, ◌++◌, take, Option, Some, None, Bool, true, false, cond, if◌then◌else◌, ◌&&◌, nat_le, nat_lt, ◌==◌, refl, sym, ◌∙◌, ap, ap₂, subst, arith}
+use Rattle.std.specs.List.{AllByRecursion}
+use Rattle.std.proofs.lemmas.Bool.{and_parts}
 use Rattle.std.proofs.lemmas.Bool.Decides.{nat_tests}
-use Rattle.gl_base.proofs.Lists.{slice_get-below}
-use Rattle.gl_entry.specs.Leaf.{id_of}
+use Rattle.std.proofs.lemmas.List.Elements.{filter-append}
 use Rattle.gl_entry.specs.declared.entry.Entry.{Entry}
+use Rattle.gl_snapshot_body.specs.Body.{are_starts, follow, is_next_start, is_start, is_start_after}
+use Rattle.gl_snapshot_body.specs.declared.body.Body.{Body}
 use Rattle.gl_snapshot_body.specs.declared.body.ViewStart.{ViewStart}
-use Rattle.gl_ledger.specs.Recordings.{last_entry}
-use Rattle.gl_ledger.specs.Serial.{IsLedger}
-use Rattle.gl_ledger.specs.Snapshot.{starts_from, view_or}
-use Rattle.gl_audit.specs.Ends.{view_of}
-use Rattle.gl_audit.specs.Kept.{start_if, starts_up_to}
+use Rattle.gl_snapshot_body.proofs.BodyLaws.{parts_of}
+use Rattle.gl_ledger.specs.Snapshot.{starts_from}
+use Rattle.gl_ledger.specs.Behind.{IsReadAt, IsReadBody}
+use Rattle.gl_audit.specs.Kept.{starts_up_to}
 use Rattle.gl_audit.proofs.Cutting.{CountFrom}
 
--- ---- the view of the last entry
+-- ---- those of a body
 
--- a transaction has the view of its entry
-pub view_named : (none : ℕ) (last : Option Entry) → none ≡ 0 → view_of (option_map id_of last) ≡ view_or none last
-view_named none None is = sym is
-view_named none (Some e) is = refl
+next_within : (base : ℕ) (last : Option ViewStart) (v : ViewStart) → is_start_after base last v ≡ true → v.seqno ≤ base
+next_within base None v ok =
+    let low = (and_parts (v.seqno == 1) (nat_le v.seqno base) (and_parts (is_start v) (is_next_start base None v) ok).1).1 in grind (arith, nat_tests, low)
+next_within base (Some last) v ok =
+    let low = (and_parts (nat_lt last.view v.view && nat_lt last.seqno v.seqno) (nat_le v.seqno base) (and_parts (is_start v) (is_next_start base (Some last) v) ok).1).1 in grind (arith, nat_tests, low)
 
--- the view of the last of some entries, else this one
-view_after : ℕ → List Entry → ℕ
-view_after view [] = view
-view_after view (e ∷ es) = view_after e.view es
+starts_within : (base to : ℕ) (last : Option ViewStart) (views : List ViewStart) → base ≤ to → follow (is_start_after base) last views ≡ true → AllByRecursion (λ (v : ViewStart). v.seqno ≤ to) views
+starts_within base to last [] low ok = tt
+starts_within base to last (v ∷ views) low ok =
+    let both = and_parts (is_start_after base last v) (follow (is_start_after base) (Some v) views) ok in
+    let here = next_within base last v both.0 in
+    (omega (arith, here, low), starts_within base to (Some v) views low both.1)
 
-view_after-last : (view : ℕ) (es : List Entry) → view_after view es ≡ view_or view (last_entry es)
-unfolding view_after
-view_after-last view [] = refl
-view_after-last view (e ∷ []) = refl
-view_after-last view (e ∷ f ∷ es) = view_after-last e.view (f ∷ es) ∙ go (slice_get-below (f ∷ es) (length es) (omega arith))
+-- none is above a seqno that isn't below the base
+pub views_within : (body : Body) (to : ℕ) → IsReadBody body → body.base ≤ to → AllByRecursion (λ (v : ViewStart). v.seqno ≤ to) body.views
+views_within body to read low = go body.base read
   where
-    go : (x : Entry) × (slice_get (f ∷ es) (length es) ≡ Some x) → view_or e.view (last_entry (f ∷ es)) ≡ view_or view (last_entry (e ∷ f ∷ es))
-    go last =
-        ap (λ (i : ℕ). view_or e.view (slice_get (f ∷ es) i)) (let same : length (f ∷ es) - 1 ≡ length es = omega arith in same)
-        ∙ ap (view_or e.view) last.1 ∙ sym (ap (view_or view) last.1)
-        ∙ sym (ap (λ (i : ℕ). view_or view (slice_get (e ∷ f ∷ es) i)) (let next : length (e ∷ f ∷ es) - 1 ≡ suc (length es) = omega arith in next))
+    go : (n : ℕ) → IsReadAt n body → AllByRecursion (λ (v : ViewStart). v.seqno ≤ to) body.views
+    go zero none = subst (λ (b : Body). AllByRecursion (λ (v : ViewStart). v.seqno ≤ to) b.views) (sym none) tt
+    go (suc n) b = starts_within body.base to None body.views low (and_parts _ (are_starts body.base body.views) (parts_of body b.fits).views).1
 
--- ---- one more entry
-
-starts_after : (view : ℕ) (es : List Entry) (e : Entry) → starts_from view (es ++ e ∷ []) ≡ starts_from view es ++ start_if (view_after view es) e
-unfolding view_after
-starts_after view [] e = refl
-starts_after view (f ∷ es) e = go (f.view == view) refl (starts_after view es e) (starts_after f.view es e)
-  where
-    start : ViewStart
-    start = record { view = f.view; seqno = f.seqno }
-
-    go : (b : Bool) → (f.view == view) ≡ b → starts_from view (es ++ e ∷ []) ≡ starts_from view es ++ start_if (view_after view es) e →
-        starts_from f.view (es ++ e ∷ []) ≡ starts_from f.view es ++ start_if (view_after f.view es) e →
-        (if b then starts_from view (es ++ e ∷ []) else start ∷ starts_from f.view (es ++ e ∷ []))
-        ≡ (if b then starts_from view es else start ∷ starts_from f.view es) ++ start_if (view_after f.view es) e
-    go true is same other =
-        let at : view ≡ f.view = grind (arith, nat_tests, is) in
-        same ∙ ap (λ (v : ℕ). starts_from view es ++ start_if (view_after v es) e) at
-    go false is same other = ap (λ (vs : List ViewStart). start ∷ vs) other
-
--- an entry of another view than the last one starts that view
-pub starts-push : (view : ℕ) (es : List Entry) (e : Entry) → starts_from view (es ++ e ∷ []) ≡ starts_from view es ++ start_if (view_or view (last_entry es)) e
-starts-push view es e = starts_after view es e ∙ ap (λ (v : ℕ). starts_from view es ++ start_if v e) (view_after-last view es)
+all_within : (to : ℕ) (views : List ViewStart) → AllByRecursion (λ (v : ViewStart). v.seqno ≤ to) views → starts_up_to to views ≡ views
+all_within to [] all = refl
+all_within to (v ∷ views) all =
+    let low = all.0 in
+    let here : nat_le v.seqno to ≡ true = grind (arith, nat_tests, low) in
+    ap (λ (b : Bool). cond b (v ∷ starts_up_to to views) (starts_up_to to views)) here ∙ ap (λ (vs : List ViewStart). v ∷ vs) (all_within to views all.1)
 
 -- ---- cut entries
 
@@ -96,7 +81,10 @@ starts_from-take n view (e ∷ es) (suc to) count =
         ap (λ (vs : List ViewStart). record { view = e.view; seqno = e.seqno } ∷ vs) other
         ∙ sym (ap (λ (b : Bool). cond b (record { view = e.view; seqno = e.seqno } ∷ starts_up_to (n + suc to) (starts_from e.view es)) (starts_up_to (n + suc to) (starts_from e.view es))) here)
 
--- the starts of a cut ledger are those up to its length
-pub starts-take : (view : ℕ) (ledger : List Entry) (to : ℕ) → IsLedger ledger → starts_from view (take to ledger) ≡ starts_up_to to (starts_from view ledger)
-starts-take view ledger to h =
-    starts_from-take 0 view ledger to (λ i e at. h.seqnos i e at ∙ omega arith) ∙ ap (λ (k : ℕ). starts_up_to k (starts_from view ledger)) (omega arith)
+-- the starts up to a seqno that isn't below the base
+pub starts_over-take : (body : Body) (es : List Entry) (to : ℕ) → IsReadBody body → CountFrom (suc body.base) es → body.base ≤ to →
+    body.views ++ starts_from body.view (take (to - body.base) es) ≡ starts_up_to to (body.views ++ starts_from body.view es)
+starts_over-take body es to read count low =
+    ap₂ (λ (vs ws : List ViewStart). vs ++ ws) (sym (all_within to body.views (views_within body to read low)))
+    (starts_from-take body.base body.view es (to - body.base) count ∙ ap (λ (k : ℕ). starts_up_to k (starts_from body.view es)) (let same : body.base + (to - body.base) ≡ to = omega (arith, low) in same))
+    ∙ sym (filter-append (λ (v : ViewStart). nat_le v.seqno to) body.views (starts_from body.view es))

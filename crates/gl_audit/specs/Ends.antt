@@ -1,12 +1,13 @@
--- How a ledger ends.
-use Rattle.std.specs.Prelude.{◌≢◌, ℕ, ◌+◌, List, Option, None, Some, false, length, option_map, if◌then◌else◌}
+-- How a ledger ends, and how entries behind a base end.
+use Rattle.std.specs.Prelude.{◌≢◌, ℕ, zero, suc, ◌+◌, List, Option, None, Some, false, length, option_map, if◌then◌else◌}
 use Rattle.gl_base.specs.declared.tx_id.TxId.{TxId}
 use Rattle.gl_rules.specs.Log.{entry_at}
 use Rattle.gl_entry.specs.Entry.{is_signature}
 use Rattle.gl_entry.specs.Leaf.{id_of}
 use Rattle.gl_entry.specs.declared.entry.Entry.{Entry}
 use Rattle.gl_ledger.specs.Recordings.{last_entry, recording_of, begins}
-use Rattle.gl_ledger.specs.Past.{commit_after, is_unopened, last_commit, last_signed}
+use Rattle.gl_ledger.specs.Past.{commit_after, commit_from, is_unopened, last_commit, last_signed}
+use Rattle.gl_snapshot_body.specs.declared.body.Body.{Body}
 use Rattle.gl_audit.specs.declared.ledger_end.LedgerEnd.{LedgerEnd}
 
 -- The entry's bytes encode what it records.
@@ -32,6 +33,30 @@ end_of ledger = record {
   commit = last_commit ledger;
   is_unopened = is_unopened (last_entry ledger);
 }
+
+-- Of entries behind a base that is above 0. The entry at the base is a signature, which stands last
+-- where no entry, or no signature, comes behind it.
+module _ (body : Body) where
+  abbrev pub id_or_base : Option Entry → TxId
+  id_or_base None = record { view = body.view; seqno = body.base }
+  id_or_base (Some e) = id_of e
+
+  abbrev pub end_behind : List Entry → LedgerEnd
+  end_behind es = record {
+    len = body.base + length es;
+    last = Some (id_or_base (last_entry es));
+    signed = Some (id_or_base (entry_at es (last_signed es)));
+    commit = commit_from body.commit es;
+    is_unopened = is_unopened (last_entry es);
+  }
+
+-- Of entries behind a base; where it is 0 they are the whole ledger.
+abbrev pub end_at : ℕ → Body → List Entry → LedgerEnd
+end_at zero body es = end_of es
+end_at (suc before) body es = end_behind body es
+
+abbrev pub end_over : Body → List Entry → LedgerEnd
+end_over body es = end_at body.base body es
 
 -- The same with one more entry.
 abbrev pub end_with : LedgerEnd → Entry → LedgerEnd

@@ -6,4 +6,3 @@ pub mod Committed
 pub mod Binding
 pub mod Verdict
 pub mod AuditSteps
-pub mod Snapshot

@@ -15,61 +15,85 @@ use gl_gov::{
 };
 use gl_gov_decisions::{changes_of, refusal};
 use gl_gov_rules::{
-    Changed, GovernanceRefusal, History, MemberRow, NodeRow, ProposalRow, ProposalStatus, Recorded,
-    ServiceRow,
+    Changed, GovernanceRefusal, GovernedRows, History, MemberRow, NodeRow, ProposalRow,
+    ProposalStatus, Recorded, ServiceRow,
 };
 use gl_requests::{Digest, GovernanceRequest};
 use gl_vmaps::Writes;
 use std::alloc::{AllocError, Global};
 use std::marker::Model;
+use std::sync::Arc;
 
-/// The requests of governance so far, each at the seqno of its entry. At every moment each of them
-/// was accepted after those before it.
+/// The requests of governance so far, each at the seqno of its entry; or those behind a base, of
+/// which the rows of governance are known in place of the requests up to it. At every moment each
+/// request was accepted after those before it.
 #[derive(Drop)]
 pub struct GovState {
+    base: Option<Arc<GovernedRows>>,
     past: History,
     alloc: Global,
 }
 
 impl Model for GovState {
-    ghost use Rattle.std.specs.Prelude.{◌≡◌, List};
-    ghost use Rattle.gl_gov_rules.specs.Changes.{history};
-    ghost use Rattle.gl_gov_rules.specs.Governed.{IsGoverned};
-    ghost use Rattle.gl_gov_rules.specs.declared.change.Recorded.{Recorded};
+    ghost use Rattle.std.specs.Prelude.{option_map};
+    ghost use Rattle.std.specs.Arc.{arc_value};
+    ghost use Rattle.gl_audit.specs.GovState.{Governed, IsPastOf};
 
-    ghost Value = { List Recorded };
+    ghost Value = { Governed };
 
-    ghost view = { λ s. s.past.requests };
+    ghost view = { λ s.
+        record { base = option_map arc_value s.base; requests = s.past.requests } };
 
-    ghost invariant = { λ s. (s.past ≡ history s.past.requests) × IsGoverned s.past.requests };
+    ghost invariant = { λ s.
+        IsPastOf (record { base = option_map arc_value s.base; requests = s.past.requests })
+        s.past };
 }
 
 impl GovState {
-    ghost use Rattle.std.specs.Prelude.{◌≡◌, ◌<◌, ℕ, List, [], ◌∷◌, ◌++◌, true, not, None, length, map, filter, option_map, IfOk, OnOk, IfErr, OnErr};
+    ghost use Rattle.std.specs.Prelude.{◌≡◌, ◌<◌, ◌≤◌, ℕ, [], true, not, None, Some, length, map, filter, option_map, IfOk, OnOk, IfErr, IfSome, OnErr};
+    ghost use Rattle.std.specs.Arc.{arc_value};
     ghost use Rattle.gl_vmaps.specs.Changes.{write_set, changes};
     ghost use Rattle.gl_requests.specs.Ranges.{is_request};
     ghost use Rattle.gl_gov_rules.specs.Refusals.{refusal};
     ghost use Rattle.gl_gov_rules.specs.Proposals.{proposal};
-    ghost use Rattle.gl_gov_rules.specs.Changes.{changes_of, changed_at, history};
-    ghost use Rattle.gl_gov_rules.specs.Rows.{all_rows, rows, effect_writes, service_row, member_rows, node_rows, proposal_row};
-    ghost use Rattle.gl_gov_rules.specs.Governed.{is_founding, is_nothing, IsAbove, IsGoverned, up_to};
+    ghost use Rattle.gl_gov_rules.specs.Changes.{changes_of, changed_at};
+    ghost use Rattle.gl_gov_rules.specs.Rows.{all_rows, rows, service_row, member_rows, node_rows, proposal_row};
+    ghost use Rattle.gl_gov_rules.specs.Governed.{is_founding};
+    ghost use Rattle.gl_gov_rules.specs.declared.row.GovernedRows.{GovernedRows};
+    ghost use Rattle.gl_gov_base.specs.GovernedOver.{base_seqno, is_unfounded, IsReadInOrder};
+    ghost use Rattle.gl_gov_base.specs.Law.{writes_over};
     ghost use Rattle.gl_gov_rules.specs.ProposalStatus.{proposal_status};
-    ghost use Rattle.gl_audit.specs.GovState.{Refuses, last_seqno, share_count};
+    ghost use Rattle.gl_audit.specs.GovState.{Governed, IsGoverned, IsLater, Refuses, governed_up_to, history_of, last_seqno, share_count, ungoverned, with_recorded};
     ghost use Rattle.gl_gov.specs.Touched.{is_selected};
 
     /// No request yet.
     pub fn new(alloc: Global) -> Self
-        ensures { result ≡ [] }
+        ensures { result ≡ ungoverned }
     {
         GovState {
+            base: None,
             past: History::new(alloc),
             alloc,
         }
     }
 
-    /// The number of requests so far.
+    /// No request behind the rows of a base yet.
+    pub fn of_rows(alloc: Global, rows: Arc<GovernedRows>) -> Result<Self, AllocError>
+        requires read { IsReadInOrder (Some (arc_value rows)) }
+        ensures { IfOk result (λ state.
+            state ≡ record { base = Some (arc_value rows); requests = [] }) }
+    {
+        let past = History::of_rows(alloc, &rows)?;
+        Ok(GovState {
+            base: Some(rows),
+            past,
+            alloc,
+        })
+    }
+
+    /// The number of requests so far, those up to a base not counted.
     pub fn len(&self) -> usize
-        ensures len { result ≡ length self.now }
+        ensures len { result ≡ length self.now.requests }
         ensures governed { IsGoverned self.now }
     {
         self.past.requests().len()
@@ -77,25 +101,36 @@ impl GovState {
 
     /// What the requests come to.
     pub fn history(&self) -> &History
-        ensures history { result.now ≡ history self.now }
+        ensures history { result.now ≡ history_of self.now }
     {
         &self.past
     }
 
-    /// Whether a service is founded: no request but a founding comes before that.
+    /// Whether a service is founded: no request but a founding comes before that. Behind a base one
+    /// is.
     pub fn is_founded(&self) -> bool
-        ensures { result ≡ not (is_nothing self.now) }
+        ensures { result ≡ not (is_unfounded self.now.base self.now.requests) }
     {
-        !self.past.requests().is_empty()
+        self.base.is_some() || !self.past.requests().is_empty()
     }
 
-    /// The seqno of the last request, 0 without one.
+    /// The seqno of the base, 0 without one.
+    fn base_seqno(&self) -> u64
+        ensures { result ≡ base_seqno self.now.base }
+    {
+        match &self.base {
+            None => 0,
+            Some(rows) => rows.seqno,
+        }
+    }
+
+    /// The seqno of the last request; that of the base where there is none, 0 without a base.
     pub fn last_seqno(&self) -> u64
         ensures last { result ≡ last_seqno self.now }
-        ensures above { (seqno : ℕ) → result < seqno → IsAbove seqno self.now }
+        ensures above { (seqno : ℕ) → result < seqno → IsLater seqno self.now }
     {
         match self.past.requests().last() {
-            None => 0,
+            None => self.base_seqno(),
             Some(last) => last.seqno,
         }
     }
@@ -107,20 +142,22 @@ impl GovState {
         seqno: u64,
         request: &GovernanceRequest,
     ) -> Result<GovernanceEffect, OrNoMemory<GovernanceRefusal>>
-        requires above { IsAbove seqno self.old }
-        requires founding { is_founding request.now ≡ is_nothing self.old }
+        requires above { IsLater seqno self.old }
+        requires founding { is_founding request.now
+            ≡ is_unfounded self.old.base self.old.requests }
         requires fits { is_request request.now ≡ true }
-        ensures accepted { OnOk result (refusal (history self.old) seqno request.now ≡ None) }
+        ensures accepted { OnOk result (refusal (history_of self.old) seqno request.now ≡ None) }
         ensures recorded { OnOk result (self.new
-            ≡ self.old ++ record { seqno = seqno; request = request.now } ∷ []) }
+            ≡ with_recorded self.old (record { seqno = seqno; request = request.now })) }
         ensures writes { IfOk result (λ effect. effect.writes
-            ≡ effect_writes self.old (record { seqno = seqno; request = request.now })) }
+            ≡ writes_over self.old.base self.old.requests
+            (record { seqno = seqno; request = request.now })) }
         ensures proposal { IfOk result (λ effect.
-            effect.proposal ≡ proposal_status (history self.new) request.now) }
+            effect.proposal ≡ proposal_status (history_of self.new) request.now) }
         ensures shares { IfOk result (λ effect.
-            effect.shares ≡ share_count (history self.new)) }
+            effect.shares ≡ share_count (history_of self.new)) }
         ensures refused { IfErr result (λ e.
-            Refuses (refusal (history self.old) seqno request.now) e) }
+            Refuses (refusal (history_of self.old) seqno request.now) e) }
         ensures kept { OnErr result (self.new ≡ self.old) }
     {
         if let Some(why) = refusal(self.alloc, &self.past, seqno, request)? {
@@ -151,19 +188,21 @@ impl GovState {
         seqno: u64,
         request: &GovernanceRequest,
     ) -> Result<GovernanceEffect, OrNoMemory<GovernanceRefusal>>
-        requires above { IsAbove seqno self.old }
-        requires founding { is_founding request.now ≡ is_nothing self.old }
+        requires above { IsLater seqno self.old }
+        requires founding { is_founding request.now
+            ≡ is_unfounded self.old.base self.old.requests }
         requires fits { is_request request.now ≡ true }
-        ensures accepted { OnOk result (refusal (history self.old) seqno request.now ≡ None) }
+        ensures accepted { OnOk result (refusal (history_of self.old) seqno request.now ≡ None) }
         ensures writes { IfOk result (λ effect. effect.writes
-            ≡ effect_writes self.old (record { seqno = seqno; request = request.now })) }
-        ensures proposal { IfOk result (λ effect. effect.proposal ≡ proposal_status
-            (history (self.old ++ record { seqno = seqno; request = request.now } ∷ []))
+            ≡ writes_over self.old.base self.old.requests
+            (record { seqno = seqno; request = request.now })) }
+        ensures proposal { IfOk result (λ effect. effect.proposal ≡ proposal_status (history_of
+            (with_recorded self.old (record { seqno = seqno; request = request.now })))
             request.now) }
-        ensures shares { IfOk result (λ effect. effect.shares ≡ share_count
-            (history (self.old ++ record { seqno = seqno; request = request.now } ∷ []))) }
+        ensures shares { IfOk result (λ effect. effect.shares ≡ share_count (history_of
+            (with_recorded self.old (record { seqno = seqno; request = request.now })))) }
         ensures refused { IfErr result (λ e.
-            Refuses (refusal (history self.old) seqno request.now) e) }
+            Refuses (refusal (history_of self.old) seqno request.now) e) }
         ensures kept { self.new ≡ self.old }
     {
         let effect = self.step(seqno, request)?;
@@ -174,12 +213,13 @@ impl GovState {
     /// Takes a request of which it is known that no rule refuses it, so that no signature is
     /// verified again. Running out of memory leaves all as it was.
     pub fn record(&mut self, seqno: u64, request: GovernanceRequest) -> Result<(), AllocError>
-        requires above { IsAbove seqno self.old }
-        requires founding { is_founding request ≡ is_nothing self.old }
+        requires above { IsLater seqno self.old }
+        requires founding { is_founding request
+            ≡ is_unfounded self.old.base self.old.requests }
         requires fits { is_request request ≡ true }
-        requires accepted { refusal (history self.old) seqno request ≡ None }
+        requires accepted { refusal (history_of self.old) seqno request ≡ None }
         ensures recorded { OnOk result (self.new
-            ≡ self.old ++ record { seqno = seqno; request = request } ∷ []) }
+            ≡ with_recorded self.old (record { seqno = seqno; request = request })) }
         ensures kept { OnErr result (self.new ≡ self.old) }
     {
         let recorded = Recorded { seqno, request };
@@ -190,13 +230,14 @@ impl GovState {
     /// Adds a request that no rule refuses, and the changes that it brings about. Running out of
     /// memory leaves all as it was.
     fn push(&mut self, recorded: Recorded, changes: Vec<Changed>) -> Result<(), AllocError>
-        requires above { IsAbove recorded.seqno self.old }
-        requires founding { is_founding recorded.request ≡ is_nothing self.old }
+        requires above { IsLater recorded.seqno self.old }
+        requires founding { is_founding recorded.request
+            ≡ is_unfounded self.old.base self.old.requests }
         requires fits { is_request recorded.request ≡ true }
-        requires accepted { refusal (history self.old) recorded.seqno recorded.request ≡ None }
+        requires accepted { refusal (history_of self.old) recorded.seqno recorded.request ≡ None }
         requires brought { changes.items
-            ≡ map (changed_at recorded.seqno) (changes_of (history self.old) recorded) }
-        ensures recorded { OnOk result (self.new ≡ self.old ++ recorded ∷ []) }
+            ≡ map (changed_at recorded.seqno) (changes_of (history_of self.old) recorded) }
+        ensures recorded { OnOk result (self.new ≡ with_recorded self.old recorded) }
         ensures kept { OnErr result (self.new ≡ self.old) }
     {
         self.past.push_recorded(self.alloc, recorded, changes)?;
@@ -213,11 +254,11 @@ impl GovState {
         requires fits { is_request request.now ≡ true }
         ensures writes { IfOk result (λ effect.
             effect.writes ≡ changes before.now
-            (write_set (filter (is_selected selection.now) (all_rows (history self.now))))) }
+            (write_set (filter (is_selected selection.now) (all_rows (history_of self.now))))) }
         ensures proposal { IfOk result (λ effect.
-            effect.proposal ≡ proposal_status (history self.now) request.now) }
+            effect.proposal ≡ proposal_status (history_of self.now) request.now) }
         ensures shares { IfOk result (λ effect.
-            effect.shares ≡ share_count (history self.now)) }
+            effect.shares ≡ share_count (history_of self.now)) }
     {
         let after = self.selected_rows(selection)?;
         Ok(GovernanceEffect {
@@ -229,57 +270,74 @@ impl GovState {
 
     /// Takes back the last request, which stands at a seqno. Takes no memory.
     fn take_back(&mut self, seqno: u64)
-        ensures { (rs : List Recorded) (request : GovernanceRequest) → IsAbove seqno rs →
-            self.old ≡ rs ++ record { seqno = seqno; request = request } ∷ [] → self.new ≡ rs }
+        requires above_base { IfSome self.old.base (λ (b : GovernedRows). b.seqno < seqno) }
+        ensures { (g : Governed) (request : GovernanceRequest) → IsLater seqno g →
+            self.old ≡ with_recorded g (record { seqno = seqno; request = request }) →
+            self.new ≡ g }
     {
         match seqno.checked_sub(1) {
             Some(before) => self.cut(before),
-            None => *self = GovState::new(self.alloc),
+            None => self.past = History::new(self.alloc),
         }
     }
 
-    /// Takes back the requests of entries above a seqno. Takes no memory.
+    /// Takes back the requests of entries above a seqno, which is not below the base. Takes no
+    /// memory.
     pub fn cut(&mut self, to: u64)
-        ensures { self.new ≡ up_to to self.old }
+        requires whole { IfSome self.old.base (λ (b : GovernedRows). b.seqno ≤ to) }
+        ensures { self.new ≡ governed_up_to to self.old }
     {
         self.past.cut(to);
     }
 
-    /// The same state in memory of its own. Fails only where memory runs out.
+    /// The same state in memory of its own but for the base's rows, which both share. Fails only
+    /// where memory runs out.
     pub fn copy(&self) -> Result<Self, AllocError>
         ensures { IfOk result (λ copy. copy ≡ self.now) }
     {
         Ok(GovState {
+            base: self.shared_base()?,
             past: self.past.copy(self.alloc)?,
             alloc: self.alloc,
         })
     }
 
+    /// The rows of the base once more, if there is one.
+    fn shared_base(&self) -> Result<Option<Arc<GovernedRows>>, AllocError>
+        ensures { IfOk result (λ base. option_map arc_value base ≡ self.now.base) }
+    {
+        match &self.base {
+            None => Ok(None),
+            Some(rows) => Ok(Some(Arc::try_clone(rows)?)),
+        }
+    }
+
     /// The selected rows of the governance tables, ascending by map and key.
     fn selected_rows(&self, selection: &Selection) -> Result<Writes, AllocError>
         ensures rows { IfOk result (λ writes. writes
-            ≡ write_set (filter (is_selected selection.now) (all_rows (history self.now)))) }
+            ≡ write_set (filter (is_selected selection.now) (all_rows (history_of self.now)))) }
     {
         selected_rows(self.alloc, &self.past, selection)
     }
 
     /// All rows of the governance tables, ascending by map and key.
     pub fn rows(&self) -> Result<Writes, AllocError>
-        ensures rows { IfOk result (λ writes. writes ≡ rows (history self.now)) }
+        ensures rows { IfOk result (λ writes. writes ≡ rows (history_of self.now)) }
     {
         self.selected_rows(&Selection::All)
     }
 
     /// The rows of all members that there ever were, in the order in which they came.
     pub fn members(&self) -> Result<Vec<MemberRow>, AllocError>
-        ensures members { IfOk result (λ members. members.items ≡ member_rows (history self.now)) }
+        ensures members { IfOk result (λ members.
+            members.items ≡ member_rows (history_of self.now)) }
     {
         member_rows(self.alloc, &self.past)
     }
 
     /// The rows of all nodes that were ever recorded, in that order.
     pub fn nodes(&self) -> Result<Vec<NodeRow>, AllocError>
-        ensures nodes { IfOk result (λ nodes. nodes.items ≡ node_rows (history self.now)) }
+        ensures nodes { IfOk result (λ nodes. nodes.items ≡ node_rows (history_of self.now)) }
     {
         node_rows(self.alloc, &self.past)
     }
@@ -287,7 +345,8 @@ impl GovState {
     /// What is known of the proposal with an identifier, if there is one.
     pub fn proposal(&self, id: &Digest) -> Result<Option<ProposalRow>, AllocError>
         ensures proposal { IfOk result (λ row. row
-            ≡ option_map (proposal_row (history self.now)) (proposal (history self.now) id.now)) }
+            ≡ option_map (proposal_row (history_of self.now))
+            (proposal (history_of self.now) id.now)) }
     {
         match self.past.proposal(id) {
             None => Ok(None),
@@ -297,14 +356,14 @@ impl GovState {
 
     /// What is known of the service. `None` before it is founded.
     pub fn service(&self) -> Option<ServiceRow>
-        ensures service { result ≡ service_row (history self.now) }
+        ensures service { result ≡ service_row (history_of self.now) }
     {
         service_row(&self.past)
     }
 
     /// How many shares of the recovery secret are given, and how many the dealing asks for.
     pub fn shares(&self) -> ShareCount
-        ensures shares { result ≡ share_count (history self.now) }
+        ensures shares { result ≡ share_count (history_of self.now) }
     {
         share_count(&self.past)
     }

@@ -1,19 +1,20 @@
 //! How a ledger ends.
 
-ghost use Rattle.std.specs.Prelude.{◌≡◌, ◌<◌, ◌||◌, ℕ, Some, IfSome, option_map};
+ghost use Rattle.std.specs.Prelude.{◌≡◌, ◌+◌, ◌<◌, ◌≤◌, ◌||◌, ℕ, [], Some, IfSome, length, option_map};
 ghost use Rattle.std.specs.Option.{option_copied};
 ghost use Rattle.gl_rules.specs.Log.{entry_at};
-ghost use Rattle.gl_audit.specs.Kept.{commit_at};
+ghost use Rattle.gl_audit.specs.Kept.{commit_at, commit_or};
 ghost use Rattle.gl_requests.specs.Parsing.{request_in};
 ghost use Rattle.gl_requests.specs.declared.request.GovernanceRequest.{GovernanceRequest as Request};
 ghost use Rattle.gl_gov_rules.specs.Governed.{is_founding, is_recovery};
 ghost use Rattle.gl_ledger.specs.Recordings.{begins, last_entry};
-ghost use Rattle.gl_ledger.specs.Past.{commit_after, is_unopened, last_signed};
+ghost use Rattle.gl_ledger.specs.Past.{commit_after, is_unopened, last_signed, past_over};
 ghost use Rattle.gl_entry.specs.Leaf.{id_of};
-ghost use Rattle.gl_audit.specs.Ends.{IsRead, end_of, end_with, no_end};
+ghost use Rattle.gl_audit.specs.Ends.{IsRead, end_of, end_over, end_with, no_end};
 
 use gl_base::TxId;
 use gl_entry::{Content, Entry};
+use gl_snapshot_body::Body;
 
 /// The first byte of a request that founds a service.
 const GENESIS_TAG: u8 = 1;
@@ -116,6 +117,16 @@ fn recorded_commit(entry: Option<&Entry>) -> u64
     }
 }
 
+/// The commit that an entry records, if there is one, else this one.
+fn commit_or(entry: Option<&Entry>, commit: u64) -> u64
+    ensures { result ≡ commit_or commit (option_copied entry.entry) }
+{
+    match entry {
+        None => commit,
+        Some(entry) => entry.content.recorded_commit(),
+    }
+}
+
 /// The entry with a seqno among entries from seqno 1 on. `None` at 0 and above the last.
 pub fn entry_at(entries: &[Entry], seqno: u64) -> Option<&Entry>
     ensures { option_copied result ≡ entry_at entries.now seqno }
@@ -127,6 +138,24 @@ pub fn entry_at(entries: &[Entry], seqno: u64) -> Option<&Entry>
 }
 
 impl LedgerEnd {
+    /// Of no entries behind a base, of which this body tells: the entry there is a signature.
+    pub(crate) fn at_base(body: &Body) -> Self
+        requires some { 0 < body.now.base }
+        ensures { result ≡ end_over body.now [] }
+    {
+        let signature = Some(TxId {
+            view: body.view,
+            seqno: body.base,
+        });
+        LedgerEnd {
+            len: body.base,
+            last: signature,
+            signed: signature,
+            commit: body.commit,
+            is_unopened: false,
+        }
+    }
+
     /// With one more entry.
     pub fn with(self, entry: &Entry) -> Self
         requires len { self.len < u64.MAX }
@@ -157,6 +186,26 @@ impl LedgerEnd {
             last: id_in(last),
             signed: id_in(signature),
             commit: recorded_commit(signature),
+            is_unopened: is_unopened(last),
+        }
+    }
+
+    /// Of these entries behind a base, of which this is the end, and where the last signature has
+    /// this seqno; that of the base where none of them is one. At no base that is as `of` tells.
+    pub fn over(base: LedgerEnd, entries: &[Entry], signed: u64) -> Self
+        requires len { base.len + length entries.now ≤ u64.MAX }
+        requires read { IfSome (last_entry entries.now) IsRead }
+        ensures { (body : Body) → base ≡ end_over body [] →
+            signed ≡ (past_over body entries.now).last_signed →
+            result ≡ end_over body entries.now }
+    {
+        let signature = entry_at(entries, signed.saturating_sub(base.len));
+        let last = entries.last();
+        LedgerEnd {
+            len: base.len + entries.len() as u64,
+            last: id_in(last).or(base.last),
+            signed: id_in(signature).or(base.signed),
+            commit: commit_or(signature, base.commit),
             is_unopened: is_unopened(last),
         }
     }

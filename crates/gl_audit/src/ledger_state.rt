@@ -1,6 +1,8 @@
-//! What the entries of a growing ledger come to, without the entries.
+//! What the entries of a growing ledger come to, without the entries: those of a whole ledger, or
+//! those behind the body of a snapshot.
 
 ghost use Rattle.std.specs.Prelude.{◌≡◌, ◌+◌, ◌-◌, ◌≤◌, ◌<◌, ◌^◌, ℕ, List, [], ◌∷◌, ◌++◌, None, Some, take, length, nat_le, slice_get, true, false, vec_len, vec_capacity, IfOk, IfErr, IfSome, IfNone, OnOk, OnErr};
+ghost use Rattle.std.specs.Arc.{arc_value};
 ghost use Rattle.std.specs.List.{AllByRecursion};
 ghost use Rattle.std.specs.List.Sorted.{IsPartitionPoint, IsPartitionedBy};
 ghost use Rattle.gl_merkle.specs.Frontier.{HasLeaves, IsUnchanged, count_of};
@@ -9,28 +11,34 @@ ghost use Rattle.gl_vmaps.specs.Standing.{StandsFor};
 ghost use Rattle.gl_vmaps.specs.Versions.{Placed, placed_at, written_by, up_to};
 ghost use Rattle.gl_entry.specs.Entry.{is_signature};
 ghost use Rattle.gl_entry.specs.Leaf.{leaf_of};
-ghost use Rattle.gl_gov_rules.specs.Governed as governed;
+ghost use Rattle.gl_gov_rules.specs.GovernedRows.{governed_rows};
+ghost use Rattle.gl_gov_base.specs.GovernedOver.{FollowsOver};
+ghost use Rattle.gl_snapshot_body.specs.Body.{is_body};
+ghost use Rattle.gl_audit.specs.GovState.{IsLater, governed_up_to, ungoverned, with_all_recorded};
 ghost use Rattle.gl_ledger.specs.Recordings.{recorded_in};
 ghost use Rattle.gl_ledger.specs.ServiceRow.{state_of_byte, state_of_value, identity_of_value, service_state, identity_in};
-ghost use Rattle.gl_ledger.specs.Tree.{tables_of, writes_of};
-ghost use Rattle.gl_ledger.specs.Broken.{broken};
+ghost use Rattle.gl_ledger.specs.Snapshot.{tables_over, writes_over};
+ghost use Rattle.gl_ledger.specs.Broken.{broken_over};
 ghost use Rattle.gl_ledger.specs.NodeKeys.{service_layers};
 ghost use Rattle.gl_entry.specs.declared.entry.Entry.{Entry};
 ghost use Rattle.gl_audit.specs.Kept.{Breaks};
-ghost use Rattle.gl_audit.specs.Kept.{seqno_if, start_if, starts_up_to, key_of, IsStateOf, IsState, ForLedgers, IsWhole, IsSettled};
-ghost use Rattle.gl_audit.specs.Ends.{IsRead, no_end, end_of, end_with, view_of};
+ghost use Rattle.gl_audit.specs.Kept.{seqno_if, starts_up_to, key_of, IsStateOf, IsStateOver, IsState, ForStates, IsWhole, IsSettled};
+ghost use Rattle.gl_ledger.specs.Behind.{start_if};
+ghost use Rattle.gl_audit.specs.Ends.{IsRead, no_end, end_over, end_with, view_of};
 
 use crate::gov_state::GovState;
 use crate::known_nodes::KnownNodes;
 use crate::ledger_end::{LedgerEnd, NO_ENTRIES};
 use gl_base::OrNoMemory;
 use gl_entry::{Content, Digest, Entry, leaf};
+use gl_gov_rules::GovernedRows;
 use gl_ledger::Broken;
 use gl_merkle::Frontier;
 use gl_requests::{GovernanceRequest, HssPublicKey, ServiceState};
-use gl_snapshot_body::ViewStart;
+use gl_snapshot_body::{Body, ViewStart};
 use gl_vmaps::Tables;
 use std::alloc::{AllocError, Global};
+use std::sync::Arc;
 
 mod rules;
 mod signatures;
@@ -45,11 +53,16 @@ pub const SERVICE_MAP: &[u8] = b"public:ccf.gov.service";
 /// The key of the service's row.
 pub const SERVICE_KEY: &[u8] = b"s";
 
-/// How a ledger ends, the seqnos of its signatures, where its views start, the requests of
-/// governance that it records, the tables that its write sets make, what these tell of the service,
-/// the tree of its leaves, and the nodes whose endorsements were verified.
+/// The base, how entries end, the seqnos of their signatures, where views start, the requests of
+/// governance that they record, the tables that their write sets make, what these tell of the
+/// service, the tree of their leaves, and the nodes whose endorsements were verified.
 #[derive(Drop)]
 pub struct LedgerState {
+    pub(crate) base: u64,
+    /// The view that the body of the base tells.
+    pub(crate) base_view: u32,
+    /// The commit that the body of the base tells.
+    pub(crate) base_commit: u64,
     pub(crate) end: LedgerEnd,
     pub signatures: Vec<u64>,
     pub(crate) views: Vec<ViewStart>,
@@ -128,10 +141,10 @@ fn identity_in(tables: &Tables) -> Option<HssPublicKey>
 /// Takes the request that an entry records, if it records one. Running out of memory leaves all as
 /// it was.
 fn take_request(alloc: Global, gov: &mut GovState, entry: &Entry) -> Result<(), AllocError>
-    requires follows { AllByRecursion (governed.Follows gov.old)
+    requires follows { AllByRecursion (FollowsOver gov.old.base gov.old.requests)
         (recorded_in entry.now.seqno entry.now.content) }
-    ensures recorded { OnOk result
-        (gov.new ≡ gov.old ++ recorded_in entry.now.seqno entry.now.content) }
+    ensures recorded { OnOk result (gov.new
+        ≡ with_all_recorded gov.old (recorded_in entry.now.seqno entry.now.content)) }
     ensures kept { OnErr result (gov.new ≡ gov.old) }
 {
     let Content::Governance(bytes) = &entry.content else {
@@ -154,11 +167,11 @@ fn take(
 ) -> Result<(), AllocError>
     requires base { tables.old.base < entry.now.seqno }
     requires above { (map key : List ℕ) → version_of tables.old map key < entry.now.seqno }
-    requires gov_above { governed.IsAbove entry.now.seqno gov.old }
-    requires follows { AllByRecursion (governed.Follows gov.old)
+    requires gov_above { IsLater entry.now.seqno gov.old }
+    requires follows { AllByRecursion (FollowsOver gov.old.base gov.old.requests)
         (recorded_in entry.now.seqno entry.now.content) }
-    ensures recorded { OnOk result
-        (gov.new ≡ gov.old ++ recorded_in entry.now.seqno entry.now.content) }
+    ensures recorded { OnOk result (gov.new
+        ≡ with_all_recorded gov.old (recorded_in entry.now.seqno entry.now.content)) }
     ensures written { OnOk result ((ps : List Placed) → StandsFor tables.old ps →
         StandsFor tables.new (ps ++ placed_at entry.now.seqno entry.now.writes)) }
     ensures base { OnOk result (tables.new.base ≡ tables.old.base) }
@@ -184,11 +197,56 @@ impl LedgerState {
         Ok(state)
     }
 
+    /// Of no entries behind a base, of which the body of a snapshot tells, with its rows of
+    /// governance as they were read. Fails only where memory runs out.
+    pub fn at_base(
+        alloc: Global,
+        body: Body,
+        governed: Arc<GovernedRows>,
+    ) -> Result<Self, AllocError>
+        requires fits { is_body body ≡ true }
+        requires some { 0 < body.base }
+        requires read { governed_rows body.base body.rows ≡ Ok (arc_value governed) }
+        ensures state { IfOk result (λ state. IsStateOver body [] state) }
+        ensures whole { IfOk result (λ state. IsWhole state) }
+    {
+        let end = LedgerEnd::at_base(&body);
+        let Body {
+            base,
+            view,
+            commit,
+            views,
+            peaks,
+            rows,
+        } = body;
+        let mut signatures = Vec::new(alloc);
+        signatures.push(base)?;
+        let tables = Tables::at_base(alloc, base, rows)?;
+        Ok(LedgerState {
+            base,
+            base_view: view,
+            base_commit: commit,
+            end,
+            signatures,
+            views: views.into_vec(),
+            gov: GovState::of_rows(alloc, governed)?,
+            service_state: state_in(&tables),
+            identity: identity_in(&tables),
+            tables,
+            frontier: Frontier::at_base(alloc, base, peaks.as_slice())?,
+            known: KnownNodes::new(alloc),
+            alloc,
+        })
+    }
+
     fn empty(alloc: Global) -> Result<Self, AllocError>
+        ensures no_base { IfOk result (λ state. state.base ≡ 0) }
+        ensures no_view { IfOk result (λ state. state.base_view ≡ 0) }
+        ensures no_commit { IfOk result (λ state. state.base_commit ≡ 0) }
         ensures end { IfOk result (λ state. state.end ≡ no_end) }
         ensures signatures { IfOk result (λ state. state.signatures.items ≡ []) }
         ensures views { IfOk result (λ state. state.views.items ≡ []) }
-        ensures gov { IfOk result (λ state. state.gov ≡ []) }
+        ensures gov { IfOk result (λ state. state.gov ≡ ungoverned) }
         ensures tables { IfOk result (λ state. StandsFor state.tables []) }
         ensures from_start { IfOk result (λ state. state.tables.base ≡ 0) }
         ensures whole { IfOk result (λ state. state.tables.compacted ≡ 0) }
@@ -199,6 +257,9 @@ impl LedgerState {
         ensures leaves { IfOk result (λ state. state.frontier.leaves ≡ []) }
     {
         Ok(LedgerState {
+            base: 0,
+            base_view: 0,
+            base_commit: 0,
             end: NO_ENTRIES,
             signatures: Vec::new(alloc),
             views: Vec::new(alloc),
@@ -219,6 +280,9 @@ impl LedgerState {
         ensures views { OnOk result
             (vec_len self.new.views + more ≤ vec_capacity self.new.views) }
         ensures frontier { OnOk result (more ≤ self.new.frontier.spare) }
+        ensures base_kept { self.new.base ≡ self.old.base }
+        ensures view_kept { self.new.base_view ≡ self.old.base_view }
+        ensures commit_kept { self.new.base_commit ≡ self.old.base_commit }
         ensures end_kept { self.new.end ≡ self.old.end }
         ensures signatures_kept { self.new.signatures.items ≡ self.old.signatures.items }
         ensures views_kept { self.new.views.items ≡ self.old.views.items }
@@ -241,6 +305,9 @@ impl LedgerState {
         requires signatures { vec_len self.old.signatures < vec_capacity self.old.signatures }
         requires views { vec_len self.old.views < vec_capacity self.old.views }
         requires frontier { 0 < self.old.frontier.spare }
+        ensures base_kept { self.new.base ≡ self.old.base }
+        ensures view_kept { self.new.base_view ≡ self.old.base_view }
+        ensures commit_kept { self.new.base_commit ≡ self.old.base_commit }
         ensures end { self.new.end ≡ end_with self.old.end entry.now }
         ensures signatures { self.new.signatures.items ≡ self.old.signatures.items
             ++ seqno_if (is_signature entry.now.content) entry.now.seqno [] }
@@ -273,19 +340,22 @@ impl LedgerState {
         requires base { self.old.tables.base < entry.now.seqno }
         requires above { (map key : List ℕ) →
             version_of self.old.tables map key < entry.now.seqno }
-        requires gov_above { governed.IsAbove entry.now.seqno self.old.gov }
-        requires follows { AllByRecursion (governed.Follows self.old.gov)
+        requires gov_above { IsLater entry.now.seqno self.old.gov }
+        requires follows { AllByRecursion (FollowsOver self.old.gov.base self.old.gov.requests)
             (recorded_in entry.now.seqno entry.now.content) }
         requires keyed { (ps : List Placed) × StandsFor self.old.tables ps
             × (length (identity_in (written_by
             (ps ++ placed_at entry.now.seqno entry.now.writes))) ≡ 60) }
+        ensures base_kept { self.new.base ≡ self.old.base }
+        ensures view_kept { self.new.base_view ≡ self.old.base_view }
+        ensures commit_kept { self.new.base_commit ≡ self.old.base_commit }
         ensures end { OnOk result (self.new.end ≡ end_with self.old.end entry.now) }
         ensures signatures { OnOk result (self.new.signatures.items ≡ self.old.signatures.items
             ++ seqno_if (is_signature entry.now.content) entry.now.seqno []) }
         ensures views { OnOk result (self.new.views.items
             ≡ self.old.views.items ++ start_if (view_of self.old.end.last) entry.now) }
-        ensures gov { OnOk result
-            (self.new.gov ≡ self.old.gov ++ recorded_in entry.now.seqno entry.now.content) }
+        ensures gov { OnOk result (self.new.gov
+            ≡ with_all_recorded self.old.gov (recorded_in entry.now.seqno entry.now.content)) }
         ensures tables { OnOk result ((ps : List Placed) → StandsFor self.old.tables ps →
             StandsFor self.new.tables (ps ++ placed_at entry.now.seqno entry.now.writes)) }
         ensures base { OnOk result (self.new.tables.base ≡ self.old.tables.base) }
@@ -322,12 +392,13 @@ impl LedgerState {
     /// Takes an entry that breaks no rule after the ledger. Running out of memory leaves all as it
     /// was.
     pub fn push(&mut self, entry: &Entry) -> Result<(), AllocError>
-        requires unbroken { (ledger : List Entry) × IsStateOf ledger self.old
-            × (broken service_layers ledger entry.now ≡ None) }
-        ensures grown { OnOk result (ForLedgers self.old (λ ledger.
-            broken service_layers ledger entry.now ≡ None →
-            IsStateOf (ledger ++ entry.now ∷ []) self.new)) }
-        ensures err { OnErr result (ForLedgers self.old (λ ledger. IsStateOf ledger self.new)) }
+        requires unbroken { (body : Body) × (es : List Entry) × IsStateOver body es self.old
+            × (broken_over service_layers body es entry.now ≡ None) }
+        ensures grown { OnOk result (ForStates self.old (λ body es.
+            broken_over service_layers body es entry.now ≡ None →
+            IsStateOver body (es ++ entry.now ∷ []) self.new)) }
+        ensures err { OnErr result (ForStates self.old (λ body es.
+            IsStateOver body es self.new)) }
         ensures whole { IsWhole self.old → IsWhole self.new }
     {
         self.push_made(entry)?;
@@ -338,13 +409,14 @@ impl LedgerState {
     /// breaks after the ledger, if it breaks one. Running out of memory, too, leaves all as it was.
     pub fn apply(&mut self, entry: &Entry) -> Result<(), OrNoMemory<Broken>>
         requires state { IsState self.old }
-        ensures unbroken { OnOk result (ForLedgers self.old (λ ledger.
-            broken service_layers ledger entry.now ≡ None)) }
-        ensures grown { OnOk result (ForLedgers self.old (λ ledger.
-            IsStateOf (ledger ++ entry.now ∷ []) self.new)) }
-        ensures refused { IfErr result (λ e. ForLedgers self.old (λ ledger.
-            Breaks (broken service_layers ledger entry.now) e)) }
-        ensures err { OnErr result (ForLedgers self.old (λ ledger. IsStateOf ledger self.new)) }
+        ensures unbroken { OnOk result (ForStates self.old (λ body es.
+            broken_over service_layers body es entry.now ≡ None)) }
+        ensures grown { OnOk result (ForStates self.old (λ body es.
+            IsStateOver body (es ++ entry.now ∷ []) self.new)) }
+        ensures refused { IfErr result (λ e. ForStates self.old (λ body es.
+            Breaks (broken_over service_layers body es entry.now) e)) }
+        ensures err { OnErr result (ForStates self.old (λ body es.
+            IsStateOver body es self.new)) }
         ensures whole { IsWhole self.old → IsWhole self.new }
     {
         if let Some(broken) = self.broken(entry)? {
@@ -372,9 +444,9 @@ impl LedgerState {
     /// one, and the leaves of the tree but for the roots of its complete subtrees. Fails only where
     /// memory runs out.
     pub fn settle(&mut self) -> Result<(), AllocError>
-        ensures state { ForLedgers self.old (λ ledger. IsStateOf ledger self.new) }
-        ensures settled { OnOk result (ForLedgers self.old (λ ledger.
-            IsSettled (length ledger) self.old self.new)) }
+        ensures state { ForStates self.old (λ body es. IsStateOver body es self.new) }
+        ensures settled { OnOk result (ForStates self.old (λ body es.
+            IsSettled (body.base + length es) self.old self.new)) }
     {
         let len = self.frontier.len();
         let peaks = self.frontier.peaks(len)?;
@@ -385,23 +457,24 @@ impl LedgerState {
 
     /// How the ledger ends.
     pub fn end(&self) -> LedgerEnd
-        ensures { ForLedgers self.now (λ ledger. result ≡ end_of ledger) }
+        ensures { ForStates self.now (λ body es. result ≡ end_over body es) }
     {
         self.end
     }
 
     /// The tables that the entries' write sets make.
     pub fn tables(&self) -> &Tables
-        ensures { ForLedgers self.now (λ ledger. StandsFor result.now (writes_of ledger)) }
+        ensures { ForStates self.now (λ body es. StandsFor result.now (writes_over body es)) }
     {
         &self.tables
     }
 
     /// The service's key, as the ledger has it. `None` where there is no entry.
     pub fn identity(&self) -> Option<&HssPublicKey>
-        ensures some { IfSome result (λ key. ForLedgers self.now (λ ledger.
-            key.now ≡ identity_in (tables_of ledger))) }
-        ensures none { IfNone result (ForLedgers self.now (λ ledger. ledger ≡ [])) }
+        ensures some { IfSome result (λ key. ForStates self.now (λ body es.
+            key.now ≡ identity_in (tables_over body es))) }
+        ensures none { IfNone result (ForStates self.now (λ body es.
+            (body.base ≡ 0) × (es ≡ []))) }
     {
         match &self.identity {
             None => None,
@@ -409,29 +482,17 @@ impl LedgerState {
         }
     }
 
-    /// Takes back what the entries above a seqno made, where the ledger up to it ends so. Takes no
+    /// Takes back what the entries above a seqno made, where those up to it end so. Takes no
     /// memory.
     pub fn cut(&mut self, to: u64, end: LedgerEnd)
-        requires base { self.old.frontier.base ≤ to }
-        requires within { to ≤ count_of self.old.frontier }
+        requires state { IsState self.old }
+        requires from_base { self.old.frontier.base ≤ to }
+        requires within { to ≤ self.old.end.len }
         requires whole { self.old.tables.compacted ≤ to }
-        ensures end { self.new.end ≡ end }
-        ensures signatures { IsPartitionedBy (λ seqno. nat_le seqno to) self.old.signatures.items →
-            (n : ℕ) × IsPartitionPoint (λ seqno. nat_le seqno to ≡ true)
-            (λ seqno. nat_le seqno to ≡ false) self.old.signatures.items n
-            × (self.new.signatures.items ≡ take n self.old.signatures.items) }
-        ensures views { self.new.views.items ≡ starts_up_to to self.old.views.items }
-        ensures gov { self.new.gov ≡ governed.up_to to self.old.gov }
-        ensures tables { (ps : List Placed) → StandsFor self.old.tables ps →
-            StandsFor self.new.tables (up_to to ps) }
-        ensures base { self.new.tables.base ≡ self.old.tables.base }
-        ensures whole { self.new.tables.compacted ≡ self.old.tables.compacted }
-        ensures state { (ps : List Placed) → StandsFor self.new.tables ps →
-            self.new.service_state ≡ service_state (written_by ps) }
-        ensures identity { (ps : List Placed) → StandsFor self.new.tables ps →
-            self.new.identity ≡ key_of (identity_in (written_by ps)) }
-        ensures leaves { HasLeaves self.old.frontier self.new.frontier
-            (take (to - self.old.frontier.base) self.old.frontier.leaves) }
+        ensures cut { ForStates self.old (λ body es.
+            end ≡ end_over body (take (to - body.base) es) →
+            IsStateOver body (take (to - body.base) es) self.new) }
+        ensures whole { IsWhole self.old → IsWhole self.new }
     {
         let signed = count_up_to(&self.signatures, to);
         self.end = end;
@@ -446,17 +507,14 @@ impl LedgerState {
 
     /// The same in memory of its own.
     pub fn copy(&self, alloc: Global) -> Result<Self, AllocError>
-        ensures end { IfOk result (λ state. state.end ≡ self.now.end) }
-        ensures signatures { IfOk result (λ state.
-            state.signatures.items ≡ self.now.signatures.items) }
-        ensures views { IfOk result (λ state. state.views.items ≡ self.now.views.items) }
-        ensures gov { IfOk result (λ state. state.gov ≡ self.now.gov) }
-        ensures tables { IfOk result (λ state. state.tables ≡ self.now.tables) }
-        ensures state { IfOk result (λ state. state.service_state ≡ self.now.service_state) }
-        ensures identity { IfOk result (λ state. state.identity ≡ self.now.identity) }
-        ensures leaves { IfOk result (λ state. IsUnchanged self.now.frontier state.frontier) }
+        ensures state { IfOk result (λ state. ForStates self.now (λ body es.
+            IsStateOver body es state)) }
+        ensures whole { IfOk result (λ state. IsWhole self.now → IsWhole state) }
     {
         Ok(LedgerState {
+            base: self.base,
+            base_view: self.base_view,
+            base_commit: self.base_commit,
             end: self.end,
             signatures: Vec::from_slice(alloc, &self.signatures)?,
             views: Vec::from_slice(alloc, &self.views)?,

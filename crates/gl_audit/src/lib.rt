@@ -5,6 +5,7 @@
 //! Begin with `audit`, the verdict on a file, and `LedgerState`, what an entry does to a ledger.
 #![tactic(auto)]
 
+mod base_laws;
 mod effect;
 mod gov_state;
 mod known_nodes;
@@ -17,6 +18,10 @@ mod removals;
 mod service_key;
 mod verdict;
 
+pub use base_laws::{
+    law_of_audited_over, law_of_governance_behind, law_of_key_behind, law_of_no_base,
+    law_of_pushed, law_of_signed_over, law_of_snapshot_over,
+};
 pub use effect::{GovernanceEffect, ShareCount};
 pub use gl_entry::ReadFault;
 pub use gov_state::{GovState, is_founding};

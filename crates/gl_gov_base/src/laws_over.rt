@@ -25,8 +25,8 @@ ghost use Rattle.gl_gov_base.specs.Law.{IsLeft, IsOver, writes_over};
 
 /// Requests that follow one another behind a base stand at rising seqnos, and so do those up to any
 /// seqno, and those with one more that follows them. Without a base they are those that follow one
-/// another from the first on, and come to the same. Behind the rows that accepted requests left they
-/// are those that follow these requests. A base has the seqno that it was read for.
+/// another from the first on, and come to the same. Behind the rows that accepted requests left
+/// they are those that follow these requests. A base has the seqno that it was read for.
 pub fn law_of_requests_over()
     ensures rising { (base : Option GovernedRows) (rs : List Recorded) →
         IsGovernedOver base rs → IsRising rs }

@@ -18,7 +18,8 @@ use Rattle.gl_gov_rules.specs.declared.refusal.NodeStatus.{NodeStatus}
 use Rattle.gl_gov_rules.specs.declared.refusal.NodeStatus.TheVariants as statuses
 use Rattle.gl_gov_rules.specs.History.{History}
 
--- The nodes that a request records, at its seqno. Those that a founding names are trusted from the start.
+-- The nodes that a request records, at its seqno. Those that a founding names are trusted from the
+-- start.
 abbrev pub recorded_node : ℕ → Bool → NewNode → RecordedNode
 recorded_node seqno is_founding n =
     record { id = node_id n; seqno = seqno; is_founding = is_founding; node = n }

@@ -6,7 +6,7 @@ use Rattle.gl_base.proofs.LittleEndianLaws.{length-little_endian}
 use Rattle.gl_journal.specs.Gates.{payloads_of, with_last}
 use Rattle.gl_journal.specs.Stops.{OpensTo}
 use Rattle.gl_journal.specs.Records.{RecordValue, Key, record_body, record_bytes, records_bytes, IsRecord, AreRecords}
-use Rattle.gl_journal.specs.Durable.{Durable, GoesOn, Folding, key_alone, fold_records, fold_next, then_folding, fold_payloads, fold_answer, durable_of, durable, journal_header, OpensToOneOf}
+use Rattle.gl_journal.specs.Durable.{Durable, LogRules, Folding, key_alone, fold_records, fold_next, then_folding, fold_payloads, fold_answer, durable_of, durable, journal_header, OpensToOneOf}
 use Rattle.gl_journal.specs.declared.fault.JournalFault.{JournalFault}
 use Rattle.gl_journal.specs.declared.fault.JournalFault.TheVariants.{NotJournal}
 use Rattle.gl_journal.specs.declared.key.Key.{Key as KeyFields}
@@ -29,7 +29,7 @@ pub length_key : (key : KeyFields) → IsRecord (Key key) → length (record_byt
 length_key key is =
     omega (arith, is, length-append (1 ∷ little_endian 4 (length (record_body (Key key)))) (record_body (Key key)), length-little_endian 4 (length (record_body (Key key))))
 
-module _ (goes_on : GoesOn) where
+module _ (goes_on : LogRules) where
   -- Where the records fold on what payloads fold into, the payloads with them fold into that.
   durable_push : (payloads : List (List ℕ)) (recs : List RecordValue) (state next : Durable) → durable_of goes_on (Ok payloads) ≡ Ok state → AreRecords recs → fold_records goes_on state recs ≡ Some next → durable_of goes_on (Ok (payloads ++ records_bytes recs ∷ [])) ≡ Ok next
   durable_push [] recs state next opens are is = cc

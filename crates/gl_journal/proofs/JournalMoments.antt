@@ -9,7 +9,7 @@ use Rattle.gl_journal.specs.Gates.{payload_at, Opening, opening_answer, payloads
 use Rattle.gl_journal.specs.Parts.{HasGate}
 use Rattle.gl_journal.specs.Stops.{IsBegun, OpensTo}
 use Rattle.gl_journal.specs.Records.{Key, record_bytes, IsRecord}
-use Rattle.gl_journal.specs.Durable.{GoesOn, durable_of, durable, journal_header, OpensToTheSame, OpensToKeyOrNone, OpensToKeyAlone}
+use Rattle.gl_journal.specs.Durable.{LogRules, durable_of, durable, journal_header, OpensToTheSame, OpensToKeyOrNone, OpensToKeyAlone}
 use Rattle.gl_journal.specs.declared.fault.JournalFault.{JournalFault}
 use Rattle.gl_journal.specs.declared.fault.JournalFault.TheVariants.{NotJournal, BadRecord}
 use Rattle.gl_journal.specs.declared.key.Key.{Key as KeyFields}
@@ -24,7 +24,7 @@ no_length : payload_at 9 [] ≡ Err (Short 9)
 unfolding bytes_at number_at string_at
 no_length = refl
 
-module _ (goes_on : GoesOn) where
+module _ (goes_on : LogRules) where
   abbrev folded : Opening → Type 0
   folded opening = (fault : JournalFault) × (durable_of goes_on (opening_answer None opening) ≡ Err fault)
 

@@ -4,11 +4,11 @@ use Rattle.gl_base.specs.Cut.{Unread}
 use Rattle.gl_base.specs.declared.fault.CutFault.{CutFault}
 use Rattle.gl_journal.specs.Gates.{body_of, payload_at, Opening, with_first}
 use Rattle.gl_journal.specs.Records.{RecordValue, then_some, kind_of, record_body, record_bytes, records_bytes, record_of, IsRecord, AreRecords}
-use Rattle.gl_journal.specs.Durable.{Durable, GoesOn, Folding, Next, fold_record, fold_records, fold_next, after_fold, after_record, after_body, fold_within, fold_payload, then_folding, fold_payloads, fold_opening, begins_with_key}
+use Rattle.gl_journal.specs.Durable.{Durable, LogRules, Folding, Next, fold_record, fold_records, fold_next, after_fold, after_record, after_body, fold_within, fold_payload, then_folding, fold_payloads, fold_opening, begins_with_key}
 use Rattle.gl_journal.proofs.Openings.{after_shorter, payload_at-body}
 use Rattle.gl_journal.proofs.RecordLaws.{record_of-encoded, body_fits}
 
-module _ (goes_on : GoesOn) where
+module _ (goes_on : LogRules) where
   same_fold : (at : ℕ) (folded : Option Durable) (new : Unread) (f g : Next) → ((state : Option Durable) → f new.at new.bytes state ≡ g new.at new.bytes state) → after_fold at folded new f ≡ after_fold at folded new g
   same_fold at None new f g same = refl
   same_fold at (Some state) new f g same = same (Some state)

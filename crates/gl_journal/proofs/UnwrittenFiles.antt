@@ -5,18 +5,18 @@ use Rattle.gl_outside.proofs.Moments.{started, stayed}
 use Rattle.gl_journal.specs.Stops.{IsSettled}
 use Rattle.gl_journal.specs.Kept.{IsAtRest, IsKept}
 use Rattle.gl_journal.specs.Parts.{HasGate}
-use Rattle.gl_journal.specs.Durable.{Durable, GoesOn, durable, journal_header, OpensToOneOf}
+use Rattle.gl_journal.specs.Durable.{Durable, LogRules, durable, journal_header, OpensToOneOf}
 use Rattle.gl_journal.specs.declared.journal.Journal.{Journal}
 use Rattle.gl_journal.proofs.Appending.{settled_gate}
 
-settled_here : (goes_on : GoesOn) (place : ℕ) (bytes : List ℕ) (past after : List Step) (state next : Durable) → IsSettled journal_header place bytes past → durable goes_on bytes ≡ Ok state → after ≡ past → Leaves (OpensToOneOf goes_on state next) past after
+settled_here : (goes_on : LogRules) (place : ℕ) (bytes : List ℕ) (past after : List Step) (state next : Durable) → IsSettled journal_header place bytes past → durable goes_on bytes ≡ Ok state → after ≡ past → Leaves (OpensToOneOf goes_on state next) past after
 settled_here goes_on place bytes past after state next settled is same =
     let P = OpensToOneOf goes_on state next in
     let here : P bytes = (settled_gate journal_header place bytes past settled, inl is) in
     stayed P past past after (started P past (λ image left. subst P (sym (settled.kept image left)) here)) same
 
 -- nothing was done to a settled journal
-pub none_done : {D : Type 0} (goes_on : GoesOn) (bytes : D → List ℕ) (past : D → List Step) (journal : Journal D) (after : List Step) (state next : Durable) → IsKept bytes past journal → durable goes_on (bytes journal.gated.disk) ≡ Ok state → after ≡ past journal.gated.disk
+pub none_done : {D : Type 0} (goes_on : LogRules) (bytes : D → List ℕ) (past : D → List Step) (journal : Journal D) (after : List Step) (state next : Durable) → IsKept bytes past journal → durable goes_on (bytes journal.gated.disk) ≡ Ok state → after ≡ past journal.gated.disk
     → Leaves (OpensToOneOf goes_on state next) (past journal.gated.disk) after
 none_done goes_on bytes past journal after state next kept is same =
     settled_here goes_on journal.gated.place (bytes journal.gated.disk) (past journal.gated.disk) after state next

@@ -1,8 +1,9 @@
 //! What a journal holds, folded from its records.
 
-ghost use Rattle.std.specs.Prelude.{◌≡◌, true, false, Option, Some, None, Ok, IsSome, option_map};
+ghost use Rattle.std.specs.Prelude.{◌≡◌, true, false, Option, Some, None, Ok, IsSome, IfSome, option_map};
 ghost use Rattle.gl_journal.specs.Durable.{fold_record, fold_next, key_alone};
-ghost use Rattle.gl_journal.specs.RecordView.{record_value, state_of};
+ghost use Rattle.gl_journal.specs.Records.{Install as InstallOf};
+ghost use Rattle.gl_journal.specs.RecordView.{record_value, state_of, StandsOn};
 
 use crate::entry_log::EntryLog;
 use crate::key::Key;
@@ -23,6 +24,8 @@ pub struct Durable<L> {
     pub has_vote_record: bool,
     /// The place after which `log` begins.
     pub base: u64,
+    /// The body of the snapshot that stands for the entries up to there.
+    pub snapshot: Option<Vec<u8>>,
     pub log: L,
     /// How many leaves of the key are spent or reserved.
     pub reserved: u32,
@@ -33,7 +36,8 @@ pub struct Durable<L> {
 impl<L: EntryLog> Durable<L> {
     /// A key alone.
     fn new(alloc: Global, key: Key) -> Self
-        ensures { state_of L.frames result ≡ key_alone key }
+        ensures alone { state_of L.frames result ≡ key_alone key }
+        ensures stands { StandsOn L.snapshot result }
     {
         Durable {
             key,
@@ -41,22 +45,49 @@ impl<L: EntryLog> Durable<L> {
             vote: None,
             has_vote_record: false,
             base: 0,
+            snapshot: None,
             log: L::new(alloc),
             reserved: 0,
             start: None,
         }
     }
 
+    /// Takes a snapshot's body, and answers whether it folds.
+    fn install(&mut self, alloc: Global, body: &[u8]) -> Result<bool, AllocError>
+        ensures folds { result ≡ Ok true →
+            fold_record L.goes_on (state_of L.frames self.old) (InstallOf body.now)
+            ≡ Some (state_of L.frames self.new) }
+        ensures stands { result ≡ Ok true → StandsOn L.snapshot self.new }
+        ensures refuses { result ≡ Ok false →
+            fold_record L.goes_on (state_of L.frames self.old) (InstallOf body.now) ≡ None }
+    {
+        if self.base != 0 || self.log.len() != 0 {
+            return Ok(false);
+        }
+        let Some(at) = self.log.install(alloc, body)? else {
+            return Ok(false);
+        };
+        if self.view < at.view {
+            self.view = at.view;
+            self.vote = None;
+        }
+        self.base = at.base;
+        self.snapshot = Some(body.to_vec(alloc)?);
+        Ok(true)
+    }
+
     /// Takes one record more after the key, and answers whether it folds.
     fn fold_record(&mut self, alloc: Global, one: &Record<'_>) -> Result<bool, AllocError>
+        requires stands { StandsOn L.snapshot self.old }
         ensures folds { result ≡ Ok true →
             fold_record L.goes_on (state_of L.frames self.old) (record_value one.now)
             ≡ Some (state_of L.frames self.new) }
+        ensures stands { result ≡ Ok true → StandsOn L.snapshot self.new }
         ensures refuses { result ≡ Ok false →
             fold_record L.goes_on (state_of L.frames self.old) (record_value one.now) ≡ None }
     {
         match one {
-            Record::Key(_) | Record::Install { .. } => Ok(false),
+            Record::Key(_) => Ok(false),
             Record::Vote { view, vote } => {
                 if *view < self.view {
                     return Ok(false);
@@ -81,6 +112,7 @@ impl<L: EntryLog> Durable<L> {
                 self.reserved = *reserved;
                 Ok(true)
             }
+            Record::Install { body } => self.install(alloc, body),
             Record::Start { leaves } => {
                 if *leaves > self.key.types.leaf_count() {
                     return Ok(false);
@@ -99,9 +131,11 @@ pub(crate) fn fold_next<L: EntryLog>(
     alloc: Global,
     one: &Record<'_>,
 ) -> Result<bool, AllocError>
+    requires stands { IfSome state.old (λ d. StandsOn L.snapshot d) }
     ensures folds { result ≡ Ok true →
         fold_next L.goes_on (option_map (state_of L.frames) state.old) (record_value one.now)
         ≡ option_map (state_of L.frames) state.new }
+    ensures stands { result ≡ Ok true → IfSome state.new (λ d. StandsOn L.snapshot d) }
     ensures refuses { result ≡ Ok false →
         fold_next L.goes_on (option_map (state_of L.frames) state.old) (record_value one.now)
         ≡ None }

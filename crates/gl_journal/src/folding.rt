@@ -6,7 +6,7 @@ ghost use Rattle.gl_journal.specs.Gates.{opening_answer, payloads_from, payloads
 ghost use Rattle.gl_journal.specs.Parts.{FileParts};
 ghost use Rattle.gl_journal.specs.Durable.{fold_payload, fold_opening, begins_with_key, durable_of, durable, journal_header};
 ghost use Rattle.gl_base.specs.Answers.{Answers};
-ghost use Rattle.gl_journal.specs.RecordView.{state_of};
+ghost use Rattle.gl_journal.specs.RecordView.{state_of, StandsOn};
 
 use crate::decoding::record_of;
 use crate::durable::{Durable, fold_next};
@@ -37,7 +37,9 @@ fn fold_payload<L: EntryLog>(
     at: usize,
     payload: &[u8],
 ) -> Result<(), OrNoMemory<JournalFault>>
-    requires { at + length payload.now < 2 ^ 64 }
+    requires size { at + length payload.now < 2 ^ 64 }
+    requires stands { IfSome state.old (λ d. StandsOn L.snapshot d) }
+    ensures stands { OnOk result (IfSome state.new (λ d. StandsOn L.snapshot d)) }
     ensures folds { OnOk result
         (fold_payload L.goes_on at payload.now (option_map (state_of L.frames) state.old)
         ≡ Ok (option_map (state_of L.frames) state.new)) }
@@ -74,6 +76,8 @@ fn fold_payloads<L: EntryLog>(
 ) -> Result<(), OrNoMemory<JournalFault>>
     requires size { 8 + length batches.now < 2 ^ 64 }
     requires opens { IsOk (payloads_from 8 batches.now) }
+    requires stands { IfSome state.old (λ d. StandsOn L.snapshot d) }
+    ensures stands { OnOk result (IfSome state.new (λ d. StandsOn L.snapshot d)) }
     ensures folds { OnOk result
         (fold_opening L.goes_on 8 (payloads_from 8 batches.now)
         (option_map (state_of L.frames) state.old)
@@ -125,6 +129,7 @@ fn fold_batches<L: EntryLog>(
     requires opens { IsOk (payloads_from 8 batches.now) }
     ensures exact { Answers (state_of L.frames) result
         (durable_of L.goes_on (opening_answer None (payloads_from 8 batches.now))) }
+    ensures stands { IfOk result (λ d. StandsOn L.snapshot d) }
     ensures no_disk { result ≡ Err (OrNoMemory.Fault JournalFault.DiskFault) → ⊥ }
 {
     let no_key = JournalFault::NotJournal { at: 8 };
@@ -146,6 +151,7 @@ fn fold_file<L: EntryLog>(
 ) -> Result<Durable<L>, OrNoMemory<JournalFault>>
     requires { IsOk (payloads_of journal_header file.now) }
     ensures exact { Answers (state_of L.frames) result (durable L.goes_on file.now) }
+    ensures stands { IfOk result (λ d. StandsOn L.snapshot d) }
     ensures no_disk { result ≡ Err (OrNoMemory.Fault JournalFault.DiskFault) → ⊥ }
 {
     let (_, batches) = file.split_at(8);
@@ -162,6 +168,7 @@ pub(crate) fn open_file<L: EntryLog>(
     ensures within { IfOk result (λ found. found.0 ≤ length file.now) }
     ensures state { IfOk result (λ found.
         durable L.goes_on file.now ≡ Ok (state_of L.frames found.1)) }
+    ensures stands { IfOk result (λ found. StandsOn L.snapshot found.1) }
     ensures fault { (fault : JournalFault) → result ≡ Err (OrNoMemory.Fault fault) →
         durable L.goes_on file.now ≡ Err fault }
     ensures no_disk { result ≡ Err (OrNoMemory.Fault JournalFault.DiskFault) → ⊥ }

@@ -1,16 +1,17 @@
 //! A log that keeps the frames of its entries.
 
-ghost use Rattle.std.specs.Prelude.{◌≡◌, IfOk};
+ghost use Rattle.std.specs.Prelude.{◌≡◌, None, IfOk};
 ghost use Rattle.gl_journal.specs.Frames.{is_frame};
 ghost use Rattle.gl_journal.specs.Parts.{items_of};
 
 use crate::entry_log::EntryLog;
+use crate::installed::Installed;
 use gl_base::OrNoMemory;
 use gl_entry::Entry;
 use std::alloc::{AllocError, Global};
 
-/// A log that keeps the frames of its entries. Every frame of an entry goes on it: it knows no rule
-/// of ledgers.
+/// A log that keeps the frames of its entries. Every frame of an entry goes on it, and no snapshot:
+/// it knows no rule of ledgers.
 #[derive(Debug, Drop)]
 pub struct FrameLog {
     pub frames: Vec<Vec<u8>>,
@@ -28,7 +29,9 @@ fn is_frame(alloc: Global, bytes: &[u8]) -> Result<bool, AllocError>
 }
 
 impl EntryLog for FrameLog {
-    ghost goes_on = { λ _ frame. is_frame frame };
+    ghost goes_on = { record { appends = λ _ _ frame. is_frame frame; installs = λ _. None } };
+
+    ghost snapshot = { λ _. None };
 
     ghost frames = { λ log. items_of log.frames.items };
 
@@ -55,5 +58,9 @@ impl EntryLog for FrameLog {
     #[tactic(auto, using(crate::proofs::PartLaws::items_of_take))]
     fn cut(&mut self, len: u64) {
         self.frames.truncate(len as usize);
+    }
+
+    fn install(&mut self, _alloc: Global, _body: &[u8]) -> Result<Option<Installed>, AllocError> {
+        Ok(None)
     }
 }

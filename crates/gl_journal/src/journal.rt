@@ -7,8 +7,8 @@ ghost use Rattle.gl_outside.specs.Disk.{IsImage, Leaves};
 ghost use Rattle.gl_journal.specs.Gates.{payloads_of};
 ghost use Rattle.gl_journal.specs.Parts.{HasGate};
 ghost use Rattle.gl_journal.specs.Records.{Key as KeyOf, record_bytes, records_bytes};
-ghost use Rattle.gl_journal.specs.Durable.{GoesOn, Durable as State, durable, key_alone, fold_records, journal_header, OpensToOneOf, OpensToTheSame, OpensToKeyOrNone, OpensToKeyAlone};
-ghost use Rattle.gl_journal.specs.RecordView.{record_values, state_of};
+ghost use Rattle.gl_journal.specs.Durable.{LogRules, Durable as State, durable, key_alone, fold_records, journal_header, OpensToOneOf, OpensToTheSame, OpensToKeyOrNone, OpensToKeyAlone};
+ghost use Rattle.gl_journal.specs.RecordView.{record_values, state_of, StandsOn};
 ghost use Rattle.gl_journal.specs.Kept.{IsKept, HasBatchRoom};
 ghost use Rattle.gl_journal.specs.Stops.{HasCause};
 ghost use Rattle.gl_journal.specs.declared.fault.JournalFault.{JournalFault};
@@ -64,17 +64,17 @@ impl<D: Disk> Journal<D> {
         ensures open { IsTrue D.honest → OnOk result (IsKept D.bytes D.past self.new) }
         // Where the records fold on the durable state of the file, each image that a stop may leave
         // afterwards opens to their fold, and so does the file.
-        ensures kept { IsTrue D.honest → (goes_on : GoesOn) (state next : State) →
+        ensures kept { IsTrue D.honest → (goes_on : LogRules) (state next : State) →
             durable goes_on (D.bytes self.old.gated.disk) ≡ Ok state →
             fold_records goes_on state (record_values records.now) ≡ Some next →
             OnOk result (durable goes_on (D.bytes self.new.gated.disk) ≡ Ok next) }
-        ensures after { IsTrue D.honest → (goes_on : GoesOn) (state next : State) →
+        ensures after { IsTrue D.honest → (goes_on : LogRules) (state next : State) →
             durable goes_on (D.bytes self.old.gated.disk) ≡ Ok state →
             fold_records goes_on state (record_values records.now) ≡ Some next →
             OnOk result ((image : List ℕ) → IsImage (D.past self.new.gated.disk) image →
             durable goes_on image ≡ Ok next) }
         // At every moment in between each image opens to the state before, or to their fold.
-        ensures any_moment { IsTrue D.honest → (goes_on : GoesOn) (state next : State) →
+        ensures any_moment { IsTrue D.honest → (goes_on : LogRules) (state next : State) →
             durable goes_on (D.bytes self.old.gated.disk) ≡ Ok state →
             fold_records goes_on state (record_values records.now) ≡ Some next →
             Leaves (OpensToOneOf goes_on state next)
@@ -96,16 +96,16 @@ impl<D: Disk> Journal<D> {
         requires small { len < 2 ^ 32 }
 
         ensures open { IsTrue D.honest → OnOk result (IsKept D.bytes D.past self.new) }
-        ensures kept { IsTrue D.honest → (goes_on : GoesOn) (state next : State) →
+        ensures kept { IsTrue D.honest → (goes_on : LogRules) (state next : State) →
             durable goes_on (D.bytes self.old.gated.disk) ≡ Ok state →
             fold_records goes_on state (record_values records.now) ≡ Some next →
             OnOk result (durable goes_on (D.bytes self.new.gated.disk) ≡ Ok next) }
-        ensures after { IsTrue D.honest → (goes_on : GoesOn) (state next : State) →
+        ensures after { IsTrue D.honest → (goes_on : LogRules) (state next : State) →
             durable goes_on (D.bytes self.old.gated.disk) ≡ Ok state →
             fold_records goes_on state (record_values records.now) ≡ Some next →
             OnOk result ((image : List ℕ) → IsImage (D.past self.new.gated.disk) image →
             durable goes_on image ≡ Ok next) }
-        ensures any_moment { IsTrue D.honest → (goes_on : GoesOn) (state next : State) →
+        ensures any_moment { IsTrue D.honest → (goes_on : LogRules) (state next : State) →
             durable goes_on (D.bytes self.old.gated.disk) ≡ Ok state →
             fold_records goes_on state (record_values records.now) ≡ Some next →
             Leaves (OpensToOneOf goes_on state next)
@@ -133,9 +133,9 @@ impl<D: Disk> Journal<D> {
             (length (record_bytes (KeyOf key.now))) }
 
         ensures open { IsTrue D.honest → OnOk result (IsKept D.bytes D.past self.new) }
-        ensures kept { IsTrue D.honest → (goes_on : GoesOn) →
+        ensures kept { IsTrue D.honest → (goes_on : LogRules) →
             OnOk result (durable goes_on (D.bytes self.new.gated.disk) ≡ Ok (key_alone key.now)) }
-        ensures any_moment { IsTrue D.honest → (goes_on : GoesOn) →
+        ensures any_moment { IsTrue D.honest → (goes_on : LogRules) →
             Leaves (OpensToKeyOrNone goes_on key.now)
             (D.past self.old.gated.disk) (D.past self.new.gated.disk) }
         ensures faults { Counts (D.faults self.old.gated.disk)
@@ -154,15 +154,15 @@ impl<D: Disk> Journal<D> {
         key: Key,
     ) -> Result<Journal<D>, (OrNoMemory<JournalFault>, D)>
         ensures open { IsTrue D.honest → IfOk result (λ journal. IsKept D.bytes D.past journal) }
-        ensures kept { IsTrue D.honest → (goes_on : GoesOn) → IfOk result (λ journal.
+        ensures kept { IsTrue D.honest → (goes_on : LogRules) → IfOk result (λ journal.
             durable goes_on (D.bytes journal.gated.disk) ≡ Ok (key_alone key)) }
 
         // At every moment each image that a stop may leave is one that it might have left before,
         // or opens to no state, or to the key alone.
-        ensures any_moment { IsTrue D.honest → (goes_on : GoesOn) → IfOk result (λ journal.
+        ensures any_moment { IsTrue D.honest → (goes_on : LogRules) → IfOk result (λ journal.
             Leaves (OpensToKeyAlone goes_on key (D.past disk))
             (D.past disk) (D.past journal.gated.disk)) }
-        ensures any_moment_err { IsTrue D.honest → (goes_on : GoesOn) → IfErr result (λ e.
+        ensures any_moment_err { IsTrue D.honest → (goes_on : LogRules) → IfErr result (λ e.
             Leaves (OpensToKeyAlone goes_on key (D.past disk)) (D.past disk) (D.past e.1)) }
 
         ensures quiet { IfOk result (λ journal. D.faults journal.gated.disk ≡ D.faults disk) }
@@ -212,6 +212,7 @@ impl<D: Disk> Journal<D> {
             durable L.goes_on (D.bytes disk) ≡ Ok (state_of L.frames found.1)) }
         ensures open { IsTrue D.honest → IfOk result (λ found. IsKept D.bytes D.past found.0
             × (durable L.goes_on (D.bytes found.0.gated.disk) ≡ durable L.goes_on (D.bytes disk))) }
+        ensures stands { IfOk result (λ found. StandsOn L.snapshot found.1) }
 
         // At every moment each image that a stop may leave is one that it might have left before,
         // or opens to the same state.

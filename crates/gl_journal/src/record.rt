@@ -23,7 +23,7 @@ pub enum Record<'a> {
     Append { frame: &'a [u8] },
     /// So many leaves of the key are spent or reserved.
     Signer { reserved: u32 },
-    /// A snapshot took the place of the entries up to its own. It doesn't fold yet.
+    /// A snapshot takes the place of the entries up to its own.
     Install { body: &'a [u8] },
     /// The start of a service spent so many leaves.
     Start { leaves: u32 },

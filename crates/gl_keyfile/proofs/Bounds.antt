@@ -1,10 +1,11 @@
 -- What a file opens to has at most as many leaves spent as its key has.
-use Rattle.std.proofs.Common.{◌≡◌, ℕ, zero, suc, ◌+◌, ◌≤◌, Bool, true, false, ◌||◌, nat_lt, if◌then◌else◌, List, [], ◌∷◌, length, Option, None, Some, Result, Ok, Err, refl, subst, arith, ltb-false}
+use Rattle.std.proofs.Common.{◌≡◌, ℕ, zero, suc, ◌+◌, ◌≤◌, Bool, true, false, ◌||◌, ◌&&◌, ◌==◌, nat_lt, if◌then◌else◌, List, [], ◌∷◌, length, Option, None, Some, Result, Ok, Err, refl, subst, arith, ltb-false}
 use Rattle.gl_base.specs.Cut.{Unread}
 use Rattle.gl_base.specs.declared.fault.CutFault.{CutFault}
 use Rattle.gl_journal.specs.Gates.{payload_at, payloads_of}
 use Rattle.gl_journal.specs.Records.{RecordValue, Key, Vote, Cut, Append, Signer, Install, Start, record_of}
-use Rattle.gl_journal.specs.Durable.{Durable, GoesOn, Folding, Next, leaf_count, fold_record, first_record, fold_next, after_fold, after_record, after_body, fold_within, fold_payload, then_folding, fold_payloads, begins_with_key, fold_answer, durable_of, durable, journal_header}
+use Rattle.gl_journal.specs.Durable.{Durable, LogRules, Folding, Next, leaf_count, raised, installed, fold_record, first_record, fold_next, after_fold, after_record, after_body, fold_within, fold_payload, then_folding, fold_payloads, begins_with_key, fold_answer, durable_of, durable, journal_header}
+use Rattle.gl_journal.specs.declared.installed.Installed.{Installed}
 use Rattle.gl_journal.specs.declared.fault.JournalFault.{JournalFault}
 
 -- No more leaves are spent than there are.
@@ -31,19 +32,34 @@ if_some : (b : Bool) (next : Durable) → Within next → WithinAny (if b then S
 if_some true next here = here
 if_some false next here = tt
 
+if_any : (b : Bool) (next : Option Durable) → WithinAny next → WithinAny (if b then next else None)
+if_any true next here = here
+if_any false next here = tt
+
+raised_within : (view : ℕ) (s : Durable) → Within s → Within (raised view s)
+raised_within view s here = go (nat_lt s.view view)
+  where
+    go : (b : Bool) → Within (if b then record s { view = view; vote = None } else s)
+    go true = here
+    go false = here
+
+installed_within : (s : Durable) (body : List ℕ) (at : Option Installed) → Within s → WithinAny (installed s body at)
+installed_within s body None here = tt
+installed_within s body (Some at) here = raised_within at.view s here
+
 not_second : (a b : Bool) → (a || b) ≡ false → b ≡ false
 not_second true b is = cc
 not_second false b is = is
 
-module _ (goes_on : GoesOn) where
+module _ (goes_on : LogRules) where
   record_within : (s : Durable) (rec : RecordValue) → Within s → WithinAny (fold_record goes_on s rec)
   record_within s (Key key) here = tt
   record_within s (Vote view vote) here = if_none (nat_lt view s.view) _ (λ is. here)
   record_within s (Cut to) here = if_none (nat_lt to s.base || nat_lt (s.base + length s.log) to) _ (λ is. here)
-  record_within s (Append frame) here = if_some (goes_on s.log frame) _ here
+  record_within s (Append frame) here = if_some (goes_on.appends s.snapshot s.log frame) _ here
   record_within s (Signer reserved) here = if_none (nat_lt reserved s.reserved || nat_lt (leaf_count s) reserved) _
       (λ is. ltb-false (leaf_count s) reserved (not_second (nat_lt reserved s.reserved) (nat_lt (leaf_count s) reserved) is))
-  record_within s (Install body) here = tt
+  record_within s (Install body) here = if_any ((s.base == 0) && (length s.log == 0)) _ (installed_within s body (goes_on.installs body) here)
   record_within s (Start leaves) here = if_none (nat_lt (leaf_count s) leaves) _ (λ is. here)
 
   first_within : (rec : RecordValue) → WithinAny (first_record rec)

@@ -1,7 +1,7 @@
 -- The leaves of a key file, and that none is taken twice.
 use Rattle.std.specs.Prelude.{◌≡◌, ℕ, ◌+◌, ◌<◌, List, [], ◌∷◌, Some, Ok}
 use Rattle.gl_outside.specs.Disk.{Step, IsImage}
-use Rattle.gl_journal.specs.Durable.{Durable, GoesOn}
+use Rattle.gl_journal.specs.Durable.{Durable, LogRules}
 use Rattle.gl_keyfile.specs.KeyFile.{opened, OpensOnlyTo}
 use Rattle.gl_keyfile.specs.declared.leaf.LeafUse.{LeafUse}
 use Rattle.gl_keyfile.specs.declared.leaf.LeafUse.TheVariants.{Signature, Start}
@@ -24,7 +24,7 @@ after_leaves (leaf_use ∷ others) state = after_leaves others (after_leaf leaf_
 -- before it or that after its leaf: the next leaf is always a higher one.
 abbrev pub NoLeafTwice : Type 0
 NoLeafTwice =
-    (goes_on : GoesOn) (leaf_use : LeafUse) (before found : Durable) (past : List Step)
+    (goes_on : LogRules) (leaf_use : LeafUse) (before found : Durable) (past : List Step)
     (image : List ℕ) (others : List LeafUse) →
     OpensOnlyTo goes_on past (after_leaf leaf_use before) → IsImage past image →
     opened goes_on image ≡ Ok found → before.reserved < (after_leaves others found).reserved

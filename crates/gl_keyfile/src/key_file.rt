@@ -37,6 +37,7 @@ fn key_alone<L: EntryLog>(alloc: Global, key: Key) -> Durable<L>
         vote: None,
         has_vote_record: false,
         base: 0,
+        snapshot: None,
         log: L::new(alloc),
         reserved: 0,
         start: None,

@@ -6,7 +6,7 @@ ghost use Rattle.gl_outside.specs.Fault.{Rose};
 ghost use Rattle.gl_outside.specs.Disk.{Leaves};
 ghost use Rattle.gl_journal.specs.Stops.{HasCause};
 ghost use Rattle.gl_journal.specs.Kept.{IsKept};
-ghost use Rattle.gl_journal.specs.Durable.{Durable as State, GoesOn, leaf_count, OpensToOneOf};
+ghost use Rattle.gl_journal.specs.Durable.{Durable as State, LogRules, leaf_count, OpensToOneOf};
 ghost use Rattle.gl_journal.specs.declared.fault.JournalFault.{JournalFault};
 ghost use Rattle.gl_keyfile.specs.KeyFile.{opened, OpensOnlyTo, disk_of, held, IsOpened};
 ghost use Rattle.gl_keyfile.specs.Leaf.{after_leaf};
@@ -47,17 +47,17 @@ fn keep_count<D: Disk>(
 ) -> Result<(), OrNoMemory<JournalFault>>
     requires open { IsTrue D.honest → IsKept D.bytes D.past journal.old }
 
-    ensures kept { IsTrue D.honest → (goes_on : GoesOn) (state : State) →
+    ensures kept { IsTrue D.honest → (goes_on : LogRules) (state : State) →
         opened goes_on (D.bytes journal.old.gated.disk) ≡ Ok state →
         reserved ≡ state.reserved + 1 → state.reserved < leaf_count state →
         OnOk result
         (opened goes_on (D.bytes journal.new.gated.disk) ≡ Ok (after_leaf leaf_use state)) }
-    ensures after { IsTrue D.honest → (goes_on : GoesOn) (state : State) →
+    ensures after { IsTrue D.honest → (goes_on : LogRules) (state : State) →
         opened goes_on (D.bytes journal.old.gated.disk) ≡ Ok state →
         reserved ≡ state.reserved + 1 → state.reserved < leaf_count state →
         OnOk result
         (OpensOnlyTo goes_on (D.past journal.new.gated.disk) (after_leaf leaf_use state)) }
-    ensures any_moment { IsTrue D.honest → (goes_on : GoesOn) (state : State) →
+    ensures any_moment { IsTrue D.honest → (goes_on : LogRules) (state : State) →
         opened goes_on (D.bytes journal.old.gated.disk) ≡ Ok state →
         reserved ≡ state.reserved + 1 → state.reserved < leaf_count state →
         Leaves (OpensToOneOf goes_on state (after_leaf leaf_use state))

@@ -17,6 +17,7 @@ pub mod Sounding
 pub mod Governed
 pub mod LedgerPrefixes
 pub mod Auditing
+pub mod EachPassing
 pub mod Faults
 pub mod GovernanceBytes
 pub mod RecordedNodes

@@ -13,5 +13,6 @@ pub mod Sound
 pub mod Makers
 pub mod LedgerBook
 pub mod Audit
+pub mod Behind
 pub mod OpeningLedger
 pub mod Recovery

@@ -19,18 +19,17 @@ use Rattle.gl_requests.specs.Ranges as ranges
 use Rattle.gl_requests.specs.declared.genesis.Genesis as founding
 use Rattle.gl_requests.specs.declared.request.GovernanceRequest.{GovernanceRequest}
 use Rattle.gl_gov_rules.specs.declared.refusal.GovernanceRefusal.{GovernanceRefusal}
-use Rattle.gl_gov_rules.specs.Changes.{history}
 use Rattle.gl_gov_rules.specs.ProposalStatus.{proposal_status}
 use Rattle.gl_gov_rules.specs.declared.change.ProposalStatus.{ProposalStatus}
 use Rattle.gl_gov_rules.specs.Governed.{is_founding, is_recovery}
 use Rattle.gl_gov_rules.specs.Refusals.{refusal}
 use Rattle.gl_ledger.specs.Tree.{leaves_of}
-use Rattle.gl_ledger.specs.Ledger.{governance_entry, genesis_entry, signature_entry, opening_ledger, message_after, execute_result, sign_result, within_size, within_seqnos}
+use Rattle.gl_ledger.specs.Ledger.{governance_after, genesis_entry, signature_entry, opening_ledger, message_after, execute_after, sign_result, within_size, within_named}
 use Rattle.gl_ledger.specs.declared.refusal.Refusal.{Refusal}
 use Rattle.gl_ledger.specs.declared.refusal.Refusal.TheVariants as refusals
 use Rattle.gl_ledger.specs.Layers.{Layers}
 use Rattle.gl_ledger.specs.NodeKeys.{NodeKeys, node_signature}
-use Rattle.gl_ledger.specs.Recordings.{endorsement_in, last_entry, requests_of}
+use Rattle.gl_ledger.specs.Recordings.{endorsement_in, last_entry}
 use Rattle.gl_ledger.specs.declared.breach.Broken.{Broken}
 use Rattle.gl_ledger.specs.declared.response.Response.{Response}
 use Rattle.gl_ledger.specs.declared.response.Response.TheVariants.{Replied, Governed}
@@ -44,9 +43,12 @@ with_reply (Ok made) = Ok (made.0, Replied made.1)
 with_reply (Err why) = Err (ByStore why)
 
 -- What an application request makes, where bytes encode it.
+abbrev pub request_after : Past → ℕ → List Operation → Result (Entry × Response) Rejection
+request_after p view q =
+    if is_request q then with_reply (execute_after p view q) else Err Unencodable
+
 abbrev pub request_result : List Entry → ℕ → List Operation → Result (Entry × Response) Rejection
-request_result ledger view q =
-    if is_request q then with_reply (execute_result ledger view q) else Err Unencodable
+request_result ledger view q = request_after (past_of ledger) view q
 
 abbrev pub by_store : {X : Type 0} → Result X Refusal → Result X Rejection
 by_store (Ok made) = Ok made
@@ -62,37 +64,51 @@ abbrev pub unless_empty : {X : Type 0} → List Entry → Result X Rejection →
 unless_empty [] made = Err NoEntry
 unless_empty (e ∷ es) made = made
 
--- The proposal that a request after a ledger concerns, in the state that it then has.
+-- The proposal that a request concerns, in the state that it then has.
+abbrev pub status_with : Past → GovernanceRequest → Option ProposalStatus
+status_with p g = proposal_status (p.after (record { seqno = p.len + 1; request = g })) g
+
 abbrev pub status_after : List Entry → GovernanceRequest → Option ProposalStatus
-status_after ledger g =
-    proposal_status (history (requests_of ledger
-    ++ record { seqno = length ledger + 1; request = g } ∷ [])) g
+status_after ledger g = status_with (past_of ledger) g
 
 -- The entry of an accepted request, and what is answered.
+abbrev pub governance_made_after : Past → GovernanceRequest → Entry → Entry × Response
+governance_made_after p g e = (e, Governed (status_with p g))
+
 abbrev pub governance_made : List Entry → GovernanceRequest → Entry → Entry × Response
-governance_made ledger g e = (e, Governed (status_after ledger g))
+governance_made ledger g e = governance_made_after (past_of ledger) g e
 
 -- What a request of governance makes that is accepted, within the limits of bodies and seqnos.
+abbrev pub governed_within_after : Past → GovernanceRequest → Entry →
+    Result (Entry × Response) Rejection
+governed_within_after p g e =
+    by_store (within_size (length (body_bytes e))
+    (within_named p.len (governance_made_after p g e)))
+
 abbrev pub governed_within : List Entry → GovernanceRequest → Entry →
     Result (Entry × Response) Rejection
-governed_within ledger g e =
-    by_store (within_size (length (body_bytes e))
-    (within_seqnos ledger (governance_made ledger g e)))
+governed_within ledger g e = governed_within_after (past_of ledger) g e
 
 -- What a request of governance makes that founds no service: first it may be refused for what it
 -- asks, then for its size, then for want of a seqno.
+abbrev pub accepted_after : Past → ℕ → GovernanceRequest → Result (Entry × Response) Rejection
+accepted_after p view g =
+    unless_refused (refusal p.history (p.len + 1) g)
+    (governed_within_after p g (governance_after g p view))
+
 abbrev pub accepted_result : List Entry → ℕ → GovernanceRequest →
     Result (Entry × Response) Rejection
-accepted_result ledger view g =
-    unless_refused (refusal (history (requests_of ledger)) (length ledger + 1) g)
-    (governed_within ledger g (governance_entry g ledger view))
+accepted_result ledger view g = accepted_after (past_of ledger) view g
 
 -- What a request of governance makes, where bytes encode it.
-abbrev pub govern_result : List Entry → ℕ → GovernanceRequest → Result (Entry × Response) Rejection
-govern_result ledger view g =
+abbrev pub govern_after : Past → ℕ → GovernanceRequest → Result (Entry × Response) Rejection
+govern_after p view g =
     if ranges.is_request g
-    then (if is_founding g || is_recovery g then Err Founding else accepted_result ledger view g)
+    then (if is_founding g || is_recovery g then Err Founding else accepted_after p view g)
     else Err Unencodable
+
+abbrev pub govern_result : List Entry → ℕ → GovernanceRequest → Result (Entry × Response) Rejection
+govern_result ledger view g = govern_after (past_of ledger) view g
 
 -- An entry may be made in a view after a ledger: the ledger has an entry, the last one doesn't
 -- found the service, and its view is not above this one.
@@ -134,7 +150,7 @@ abbrev pub evidence_result : Past → ℕ → Result Entry Rejection
 evidence_result p view =
     if is_signed p.last
     then by_store (within_snapshot (length (snapshots.body_bytes p.snapshot))
-    (if nat_lt p.len last_seqno then Ok (evidence_entry p view) else Err refusals.SeqnoLimit))
+    (within_named p.len (evidence_entry p view)))
     else Err NotAfterSignature
 
 module _ (keys : NodeKeys) where

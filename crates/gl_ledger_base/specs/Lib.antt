@@ -1,1 +1,3 @@
-pub mod Behind
+pub mod Ledgers
+pub mod BookOver
+pub mod ReadOver

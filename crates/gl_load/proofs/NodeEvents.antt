@@ -1,5 +1,5 @@
 -- The node of a load stands for that of the rules, from event to event.
-use Rattle.std.proofs.Common.{◌≡◌, ℕ, suc, ◌+◌, ◌<◌, ◌≤◌, List, [], Bool, true, false, None, sym, ◌∙◌, ap, subst, arith}
+use Rattle.std.proofs.Common.{◌≡◌, ℕ, suc, ◌+◌, ◌<◌, ◌≤◌, List, [], Bool, true, false, None, drop, sym, ◌∙◌, ap, subst, arith}
 use Rattle.rand_chacha.specs.ChaCha.{ChaCha, of_seed}
 use Rattle.gl_rules.specs.World.{leader_at_start}
 use Rattle.gl_entry.specs.declared.entry.Entry.{Entry}
@@ -10,7 +10,8 @@ use Rattle.gl_replication.specs.declared.event.Event.TheVariants as events
 use Rattle.gl_replication.specs.Holding.{Holding}
 use Rattle.gl_replication.specs.Stands.{Reports, StandsFor, held_by}
 use Rattle.gl_world.specs.Service.{ServiceEvent}
-use Rattle.gl_node.specs.Persistence.{HoldsWhole}
+use Rattle.gl_node.specs.Kept.{Kept}
+use Rattle.gl_node.specs.Persistence.{HoldsAbove, SnapshotOf}
 use Rattle.gl_load.specs.Events.{events_up_to, load_ledger, node_after, signs_after}
 use Rattle.gl_load.specs.Founding.{load_book, load_id, load_start}
 use Rattle.gl_load.specs.Node.{IsAfter, IsAfterRequests, IsLed, IsUnsigned, Takes}
@@ -113,15 +114,16 @@ module _ {S : Type 0} (stands : S → ServiceBook → Holding Entry → Type 0) 
     words_are = is;
   }
 
-  pub loaded : (ledger : S → List Entry) (seed : List ℕ) (count : ℕ) (seen : LoadSeen S) → IsAfter stands seed (events_up_to seed count count) seen → HoldsWhole stands ledger seen.core.book →
-      ledger seen.core.book ≡ load_ledger seed count
-  loaded ledger seed count seen at whole = sym (whole (load_book seed) (held_by (load_id seed) (node_after seed (events_up_to seed count count))) at.stands_for.ledger).1
+  module _ (held : S → Kept) (snapshot_of : SnapshotOf) (seed : List ℕ) (count : ℕ) (whole : (node_after seed (events_up_to seed count count)).base ≡ 0) (seen : LoadSeen S) (at : IsAfter stands seed (events_up_to seed count count) seen) where
+    pub loaded : HoldsAbove stands held snapshot_of seen.core.book → (held seen.core.book).entries ≡ load_ledger seed count
+    loaded above =
+        sym (above (load_book seed) (held_by (load_id seed) (node_after seed (events_up_to seed count count))) at.stands_for.ledger).entries
+        ∙ ap (λ (i : ℕ). drop i (load_ledger seed count)) whole
 
-  -- so it is with the entries that its store gives
-  pub given : (ledger : S → List Entry) (seed : List ℕ) (count : ℕ) (seen : LoadSeen S) (core : LoadCore S) (entries : List Entry) → IsAfter stands seed (events_up_to seed count count) seen → core ≡ seen.core →
-      HoldsWhole stands ledger core.book → entries ≡ ledger core.book → entries ≡ load_ledger seed count
-  given ledger seed count seen core entries at same whole are =
-      are ∙ ap (λ (c : LoadCore S). ledger c.book) same ∙ loaded ledger seed count seen at (subst (λ (c : LoadCore S). HoldsWhole stands ledger c.book) same whole)
+    -- so it is with the entries that its store gives
+    pub given : (core : LoadCore S) (entries : List Entry) → core ≡ seen.core → HoldsAbove stands held snapshot_of core.book → entries ≡ (held core.book).entries → entries ≡ load_ledger seed count
+    given core entries same above are =
+        are ∙ ap (λ (c : LoadCore S). (held c.book).entries) same ∙ loaded (subst (λ (c : LoadCore S). HoldsAbove stands held snapshot_of c.book) same above)
 
 -- whether it signs after the next request
 pub due : (count done : ℕ) (b t : Bool) → b ≡ signs_after count (done + 1) → b ≡ t → signs_after count (suc done) ≡ t

@@ -46,9 +46,10 @@ use Rattle.gl_load.specs.Requests.{load_request}
 use Rattle.gl_load.proofs.Founded.{load_begins, load_fits}
 use Rattle.gl_load.proofs.Running.{load_is_request, load_ran, load_runs, load_short, load_small, load_state}
 
--- what is known of the node: it leads, the service is open, its ledger has so many entries, and so
+-- what is known of the node: its ledger is whole, it leads, the service is open, its ledger has so many entries, and so
 -- many leaves are used and reserved, one for each signature
 pub record IsAt (n : Node Entry) (len used reserved : ℕ) : Type 0 where
+  pub whole : n.base ≡ 0
   pub leads : n.role ≡ Leader
   pub long : length n.log ≡ len
   pub signs : length (signatures_in n.log) ≡ used
@@ -63,6 +64,7 @@ IsUnsigned seed n = is_signature_in (load_book seed) n.view (entry_at n.log (len
 -- as it begins
 pub at_start : (seed : List ℕ) → IsAt (leader_at_start (load_start seed)) 2 1 1
 at_start seed = record {
+  whole = refl;
   leads = refl;
   long = refl;
   signs = refl;
@@ -114,6 +116,7 @@ module _ (seed : List ℕ) (events : List ServiceEvent) (len used reserved : ℕ
 
     pub submit_at : IsAt (submit b (load_request seed i) n).node (len + 1) used reserved
     submit_at = subst (λ (s : Step Entry Response Rejection). IsAt s.node (len + 1) used reserved) (sym submits) (record {
+      whole = at.whole;
       leads = at.leads;
       long = length-push n.log e ∙ ap (λ (k : ℕ). k + 1) at.long;
       signs = length-signatures n.log e ∙ omega (arith, at.signs);
@@ -140,6 +143,7 @@ module _ (seed : List ℕ) (events : List ServiceEvent) (len used reserved : ℕ
 
     pub reserve_at : IsAt (reserve b x n).node len used (reserved + 1)
     reserve_at = subst (λ (s : Step Entry Response Rejection). IsAt s.node len used (reserved + 1)) (sym reserves) (record {
+      whole = at.whole;
       leads = at.leads;
       long = at.long;
       signs = at.signs;
@@ -186,6 +190,7 @@ module _ (seed : List ℕ) (events : List ServiceEvent) (len used reserved : ℕ
 
     pub sign_at : IsAt (sign b x n).node (len + 1) (used + 1) reserved
     sign_at = subst (λ (s : Step Entry Response Rejection). IsAt s.node (len + 1) (used + 1) reserved) (sym signs) (record {
+      whole = at.whole;
       leads = at.leads;
       long = length-push n.log f ∙ ap (λ (k : ℕ). k + 1) at.long;
       signs = length-signatures n.log f ∙ ap (λ (k : ℕ). k + 1) at.signs;
@@ -212,4 +217,4 @@ module _ (seed : List ℕ) (events : List ServiceEvent) (len used reserved : ℕ
     where
       go : (o : Option ℕ) → IsAt (commit_to {F = Rejection} b n o).node len used reserved
       go None = at
-      go (Some seqno) = record { leads = at.leads; long = at.long; signs = at.signs; used_is = at.used_is; reserved_is = at.reserved_is; is_open = at.is_open }
+      go (Some seqno) = record { whole = at.whole; leads = at.leads; long = at.long; signs = at.signs; used_is = at.used_is; reserved_is = at.reserved_is; is_open = at.is_open }

@@ -8,7 +8,7 @@ use Rattle.gl_rules.specs.Outcome as outcomes
 use Rattle.gl_outside.specs.Disk.{Step, IsImage, Leaves}
 use Rattle.gl_outside.specs.Fault.{Counts, Rose}
 use Rattle.gl_outside.proofs.Moments.{started, stayed}
-use Rattle.gl_journal.specs.Durable.{Durable, GoesOn, durable, journal_header, OpensToOneOf}
+use Rattle.gl_journal.specs.Durable.{Durable, LogRules, durable, journal_header, OpensToOneOf}
 use Rattle.gl_journal.specs.Kept.{IsKept}
 use Rattle.gl_journal.specs.Stops.{IsSettled}
 use Rattle.gl_journal.specs.declared.journal.Journal.{Journal}
@@ -18,26 +18,26 @@ use Rattle.gl_replication.specs.Stands.{KeepsAll, Refuses, Reports, StandsFor, S
 use Rattle.gl_replication.specs.declared.node.Core.{Core}
 use Rattle.gl_replication.specs.declared.done.Done.{Done}
 use Rattle.gl_replication.specs.declared.done.Refusal.{Refusal}
-use Rattle.gl_node.specs.Changes.{IsAsKept}
+use Rattle.gl_node.specs.Changes.{IsAsKept, KeepsBase}
 use Rattle.gl_node.specs.Comes.{Comes, IsBroken, IsDone, IsRefused}
-use Rattle.gl_node.specs.Kept.{kept_after}
-use Rattle.gl_node.specs.Persistence.{HoldsWhole, IsFileOf, IsServing, StandsForSome, kept_of}
+use Rattle.gl_node.specs.Kept.{Kept, kept_after}
+use Rattle.gl_node.specs.Persistence.{HoldsAbove, IsFileOf, IsServing, SnapshotOf, StandsForSome, kept_of}
 use Rattle.gl_node.specs.declared.fault.NodeFault.{NodeFault}
 use Rattle.gl_node.specs.declared.fault.NodeFault.TheVariants.{Refused, DiskFault, Stopped}
 use Rattle.gl_node.proofs.Standings.{keeps_kept, kept_same, kept_still, still_keeps}
 use Rattle.gl_node.proofs.ElectionSteps.{as_it_was}
 
 -- an image of a settled file opens as the file does
-settled_image : (goes_on : GoesOn) (place : ℕ) (bytes : List ℕ) (past : List Step) (state next : Durable) → IsSettled journal_header place bytes past → durable goes_on bytes ≡ Ok state → (image : List ℕ) → IsImage past image → OpensToOneOf goes_on state next image
+settled_image : (goes_on : LogRules) (place : ℕ) (bytes : List ℕ) (past : List Step) (state next : Durable) → IsSettled journal_header place bytes past → durable goes_on bytes ≡ Ok state → (image : List ℕ) → IsImage past image → OpensToOneOf goes_on state next image
 settled_image goes_on place bytes past state next settled is image left =
     subst (OpensToOneOf goes_on state next) (sym (settled.kept image left)) (settled_gate journal_header place bytes past settled, inl is)
 
 same_ok : {T E : Type 0} (a b : T) → ◌≡◌ {A = Result T E} (Ok a) (Ok b) → a ≡ b
 same_ok a b is = cc
 
-module _ {D S Q G R A F : Type 0} (stands : S → Book Entry Q G R A F → Holding Entry → Type 0) (ledger : S → List Entry) (goes_on : GoesOn) (honest : Bool) (bytes : D → List ℕ) (past : D → List Step) (faults : D → ℕ) where
+module _ {D S Q G R A F : Type 0} (stands : S → Book Entry Q G R A F → Holding Entry → Type 0) (held : S → Kept) (snapshot_of : SnapshotOf) (goes_on : LogRules) (honest : Bool) (bytes : D → List ℕ) (past : D → List Step) (faults : D → ℕ) where
   abbrev Serving : Core S Q G R A F → Journal D → Type 0
-  Serving c j = IsServing stands ledger goes_on honest bytes past c j
+  Serving c j = IsServing stands held snapshot_of goes_on honest bytes past c j
 
   -- a journal whose file is as it was
   pub record SameFile (j j' : Journal D) : Type 0 where
@@ -59,25 +59,25 @@ module _ {D S Q G R A F : Type 0} (stands : S → Book Entry Q G R A F → Holdi
         stayed P (past j.gated.disk) (past j.gated.disk) (past j'.gated.disk)
         (started P (past j.gated.disk) (settled_image goes_on j.gated.place (bytes j.gated.disk) (past j.gated.disk) d next settled is)) (same.stops h)
 
-  module _ {c c' : Core S Q G R A F} {j j' : Journal D} (here : Serving c j) (same : SameFile j j') (whole : HoldsWhole stands ledger c'.book) where
+  module _ {c c' : Core S Q G R A F} {j j' : Journal D} (here : Serving c j) (same : SameFile j j') (above : HoldsAbove stands held snapshot_of c'.book) where
     -- a node in which nothing of what the file keeps is another
     pub serving_still : {m : Node Entry} → StandsFor stands c' here.some.rules here.some.me m → IsAsKept here.some.node m → Serving c' j'
     serving_still {m} s k = record {
       some = record { rules = here.some.rules; me = here.some.me; node = m; standing = s };
-      whole = whole;
+      above = above;
       file = λ h.
           let f = here.file h in
           record {
             kept = same.settles h f.kept;
             state = f.state;
             opens = ap (durable goes_on) (same.reads h) ∙ f.opens;
-            keeps = still_keeps stands ledger here.whole here.some.standing whole s f.state k f.keeps;
+            keeps = still_keeps stands held snapshot_of here.above here.some.standing above s f.state k f.keeps;
             leaves = f.leaves;
           };
     }
 
     -- a refusal
-    pub refused_by : (rule : Book Entry Q G R A F → NodeId → Node Entry → outcomes.Step Entry A F) (why : Refusal S Q G R A F) → Refuses stands rule c why → KeepsAll stands c c' → IsRefused stands ledger goes_on honest bytes past faults rule c j why c' j'
+    pub refused_by : (rule : Book Entry Q G R A F → NodeId → Node Entry → outcomes.Step Entry A F) (why : Refusal S Q G R A F) → Refuses stands rule c why → KeepsAll stands c c' → IsRefused stands held snapshot_of goes_on honest bytes past faults rule c j why c' j'
     refused_by rule why refuses keeps = record {
       refused = refuses;
       keeps = keeps;
@@ -87,7 +87,7 @@ module _ {D S Q G R A F : Type 0} (stands : S → Book Entry Q G R A F → Holdi
     }
 
     -- an event that changes nothing of what the file keeps
-    pub passed_by : (rule : Book Entry Q G R A F → NodeId → Node Entry → outcomes.Step Entry A F) (done : Done S Q G R A F) → Steps stands rule c done c' → Reports stands c (λ b x n. IsAsKept n (rule b x n).node) → IsDone stands ledger goes_on honest bytes past faults rule c j done c' j'
+    pub passed_by : (rule : Book Entry Q G R A F → NodeId → Node Entry → outcomes.Step Entry A F) (done : Done S Q G R A F) → Steps stands rule c done c' → Reports stands c (λ b x n. IsAsKept n (rule b x n).node) → IsDone stands held snapshot_of goes_on honest bytes past faults rule c j done c' j'
     passed_by rule done steps kept =
         let s = here.some.standing in
         let b = here.some.rules in
@@ -95,12 +95,12 @@ module _ {D S Q G R A F : Type 0} (stands : S → Book Entry Q G R A F → Holdi
         let n = here.some.node in
         let then = (steps b x n s).node in
         let k = kept b x n s in
-        let state_is : IsTrue honest → (d : Durable) → durable goes_on (bytes j.gated.disk) ≡ Ok d → kept_of ledger d c' ≡ d =
+        let state_is : IsTrue honest → (d : Durable) → durable goes_on (bytes j.gated.disk) ≡ Ok d → kept_of held d c' ≡ d =
         λ h d is.
         let f = here.file h in
         let one : f.state ≡ d = same_ok f.state d (sym f.opens ∙ is) in
-        kept_still stands ledger d c' (subst (λ (v : Durable). IsFileOf ledger v c') one (still_keeps stands ledger here.whole s whole then f.state k f.keeps)) in
-        let opens : IsTrue honest → (d : Durable) → durable goes_on (bytes j.gated.disk) ≡ Ok d → durable goes_on (bytes j'.gated.disk) ≡ Ok (kept_of ledger d c') =
+        kept_still stands held snapshot_of d c' (subst (λ (v : Durable). IsFileOf held v c') one (still_keeps stands held snapshot_of here.above s above then f.state k f.keeps)) in
+        let opens : IsTrue honest → (d : Durable) → durable goes_on (bytes j.gated.disk) ≡ Ok d → durable goes_on (bytes j'.gated.disk) ≡ Ok (kept_of held d c') =
         λ h d is. ap (durable goes_on) (same.reads h) ∙ is ∙ ap (λ (v : Durable). Ok v) (sym (state_is h d is)) in
         let serving = serving_still then k in
         record {
@@ -108,7 +108,7 @@ module _ {D S Q G R A F : Type 0} (stands : S → Book Entry Q G R A F → Holdi
           serving = serving;
           kept = opens;
           after = λ h d is image left. ap (durable goes_on) ((serving.file h).kept.settled.kept image left) ∙ opens h d is;
-          any_moment = λ h d is. opens_still here same d (kept_of ledger d c') h is;
+          any_moment = λ h d is. opens_still here same d (kept_of held d c') h is;
           quiet = same.counted;
         }
 
@@ -119,14 +119,15 @@ of_err : {T E A : Type 0} (result : Result T E) (e : E) → result ≡ Err e →
 of_err {A = A} result e is here = let P : Result _ _ → Type 0 = λ r. OnErr r A in subst P is here
 
 -- an event whose changes are kept, or at which the disk fails
-module _ {D S Q G R A F T E : Type 0} (stands : S → Book Entry Q G R A F → Holding Entry → Type 0) (ledger : S → List Entry) (goes_on : GoesOn) (honest : Bool) (bytes : D → List ℕ) (past : D → List Step) (faults : D → ℕ)
-    {c c' : Core S Q G R A F} {j mid : Journal D} (j' : Journal D) (here : IsServing stands ledger goes_on honest bytes past c j) (same : SameFile stands ledger goes_on honest bytes past faults j mid) (whole : HoldsWhole stands ledger c'.book)
+module _ {D S Q G R A F T E : Type 0} (stands : S → Book Entry Q G R A F → Holding Entry → Type 0) (held : S → Kept) (snapshot_of : SnapshotOf) (goes_on : LogRules) (honest : Bool) (bytes : D → List ℕ) (past : D → List Step) (faults : D → ℕ)
+    {c c' : Core S Q G R A F} {j mid : Journal D} (j' : Journal D) (here : IsServing stands held snapshot_of goes_on honest bytes past c j) (same : SameFile stands held snapshot_of goes_on honest bytes past faults j mid) (above : HoldsAbove stands held snapshot_of c'.book)
     (rule : Book Entry Q G R A F → NodeId → Node Entry → outcomes.Step Entry A F) (done : Done S Q G R A F) (steps : Steps stands rule c done c')
+    (stays : KeepsBase here.some.node (rule here.some.rules here.some.me here.some.node).node)
     (Change : Durable → Type 0) (changes : (h : IsTrue honest) → Change (here.file h).state) (result : Result T E)
     (settles : IsTrue honest → OnOk result (IsKept bytes past j'))
-    (kept : IsTrue honest → (d : Durable) → durable goes_on (bytes mid.gated.disk) ≡ Ok d → Change d → OnOk result (durable goes_on (bytes j'.gated.disk) ≡ Ok (kept_of ledger d c')))
-    (after : IsTrue honest → (d : Durable) → durable goes_on (bytes mid.gated.disk) ≡ Ok d → Change d → OnOk result ((image : List ℕ) → IsImage (past j'.gated.disk) image → durable goes_on image ≡ Ok (kept_of ledger d c')))
-    (any_moment : IsTrue honest → (d : Durable) → durable goes_on (bytes mid.gated.disk) ≡ Ok d → Change d → Leaves (OpensToOneOf goes_on d (kept_of ledger d c')) (past mid.gated.disk) (past j'.gated.disk))
+    (kept : IsTrue honest → (d : Durable) → durable goes_on (bytes mid.gated.disk) ≡ Ok d → Change d → OnOk result (durable goes_on (bytes j'.gated.disk) ≡ Ok (kept_of held d c')))
+    (after : IsTrue honest → (d : Durable) → durable goes_on (bytes mid.gated.disk) ≡ Ok d → Change d → OnOk result ((image : List ℕ) → IsImage (past j'.gated.disk) image → durable goes_on image ≡ Ok (kept_of held d c')))
+    (any_moment : IsTrue honest → (d : Durable) → durable goes_on (bytes mid.gated.disk) ≡ Ok d → Change d → Leaves (OpensToOneOf goes_on d (kept_of held d c')) (past mid.gated.disk) (past j'.gated.disk))
     (counts : Counts (faults mid.gated.disk) (faults j'.gated.disk) result) where
   there : IsTrue honest → (d : Durable) → durable goes_on (bytes j.gated.disk) ≡ Ok d → durable goes_on (bytes mid.gated.disk) ≡ Ok d
   there h d is = ap (durable goes_on) (same.reads h) ∙ is
@@ -140,22 +141,22 @@ module _ {D S Q G R A F T E : Type 0} (stands : S → Book Entry Q G R A F → H
   abbrev some_then : StandsForSome stands c'
   some_then = record { rules = here.some.rules; me = here.some.me; node = (rule here.some.rules here.some.me here.some.node).node; standing = then }
 
-  moments : IsTrue honest → (d : Durable) → durable goes_on (bytes j.gated.disk) ≡ Ok d → Leaves (OpensToOneOf goes_on d (kept_of ledger d c')) (past j.gated.disk) (past j'.gated.disk)
-  moments h d is = subst (λ (p : List Step). Leaves (OpensToOneOf goes_on d (kept_of ledger d c')) p (past j'.gated.disk)) (same.stops h) (any_moment h d (there h d is) (changed h d is))
+  moments : IsTrue honest → (d : Durable) → durable goes_on (bytes j.gated.disk) ≡ Ok d → Leaves (OpensToOneOf goes_on d (kept_of held d c')) (past j.gated.disk) (past j'.gated.disk)
+  moments h d is = subst (λ (p : List Step). Leaves (OpensToOneOf goes_on d (kept_of held d c')) p (past j'.gated.disk)) (same.stops h) (any_moment h d (there h d is) (changed h d is))
 
-  pub done_by : (value : T) → result ≡ Ok value → IsDone stands ledger goes_on honest bytes past faults rule c j done c' j'
+  pub done_by : (value : T) → result ≡ Ok value → IsDone stands held snapshot_of goes_on honest bytes past faults rule c j done c' j'
   done_by value ok = record {
     steps = steps;
     serving = record {
       some = some_then;
-      whole = whole;
+      above = above;
       file = λ h.
           let f = here.file h in
           record {
             kept = of_ok result value ok (settles h);
-            state = kept_of ledger f.state c';
+            state = kept_of held f.state c';
             opens = of_ok result value ok (kept h f.state (there h f.state f.opens) (changes h));
-            keeps = keeps_kept stands ledger f.state c' f.keeps.base;
+            keeps = keeps_kept stands held snapshot_of here.above here.some.standing above then f.state stays f.keeps;
             leaves = f.leaves;
           };
     };
@@ -165,28 +166,28 @@ module _ {D S Q G R A F T E : Type 0} (stands : S → Book Entry Q G R A F → H
     quiet = of_ok result value ok counts.quiet ∙ same.counted;
   }
 
-  pub broken_by : (e : E) → result ≡ Err e → IsBroken stands ledger goes_on honest bytes past faults rule c j c' j'
+  pub broken_by : (e : E) → result ≡ Err e → IsBroken stands held snapshot_of goes_on honest bytes past faults rule c j c' j'
   broken_by e err = record {
     turned = λ b x n s. (steps b x n s).node;
     some = some_then;
-    whole = whole;
+    above = above;
     any_moment = moments;
     rose = subst (λ (k : ℕ). Rose k (faults j'.gated.disk)) same.counted (of_err result e err counts.failed);
   }
 
 -- at every moment of an event that is served
-module _ {D S Q G R A F : Type 0} (stands : S → Book Entry Q G R A F → Holding Entry → Type 0) (ledger : S → List Entry) (goes_on : GoesOn) (honest : Bool) (bytes : D → List ℕ) (past : D → List Step) (faults : D → ℕ)
-    (rule : Book Entry Q G R A F → NodeId → Node Entry → outcomes.Step Entry A F) {c : Core S Q G R A F} {j : Journal D} (here : IsServing stands ledger goes_on honest bytes past c j) where
+module _ {D S Q G R A F : Type 0} (stands : S → Book Entry Q G R A F → Holding Entry → Type 0) (held : S → Kept) (snapshot_of : SnapshotOf) (goes_on : LogRules) (honest : Bool) (bytes : D → List ℕ) (past : D → List Step) (faults : D → ℕ)
+    (rule : Book Entry Q G R A F → NodeId → Node Entry → outcomes.Step Entry A F) {c : Core S Q G R A F} {j : Journal D} (here : IsServing stands held snapshot_of goes_on honest bytes past c j) where
   abbrev Moments : Journal D → Type 0
   Moments j' = Reports stands c (λ b x n. (d : Durable) → durable goes_on (bytes j.gated.disk) ≡ Ok d →
       Leaves (OpensToOneOf goes_on d (kept_after d (rule b x n).node)) (past j.gated.disk) (past j'.gated.disk))
 
-  pub every_moment : (result : Result (Done S Q G R A F) (NodeFault S Q G R A F)) (c' : Core S Q G R A F) (j' : Journal D) → Comes stands ledger goes_on honest bytes past faults rule c j result c' j' → IsTrue honest → Moments j'
+  pub every_moment : (result : Result (Done S Q G R A F) (NodeFault S Q G R A F)) (c' : Core S Q G R A F) (j' : Journal D) → Comes stands held snapshot_of goes_on honest bytes past faults rule c j result c' j' → IsTrue honest → Moments j'
   every_moment (Ok done) c' j' came h b x n s d is =
-      subst (λ (next : Durable). Leaves (OpensToOneOf goes_on d next) (past j.gated.disk) (past j'.gated.disk)) (kept_same stands ledger d came.serving.whole (came.steps b x n s).node) (came.any_moment h d is)
+      subst (λ (next : Durable). Leaves (OpensToOneOf goes_on d next) (past j.gated.disk) (past j'.gated.disk)) (kept_same stands held snapshot_of d came.serving.above (came.steps b x n s).node) (came.any_moment h d is)
   every_moment (Err (Refused why)) c' j' came h b x n s d is =
-      let same : SameFile stands ledger goes_on honest bytes past faults j j' = record { settles = λ t k. (came.serving.file t).kept; reads = λ t. (came.same t).0; stops = λ t. (came.same t).1; counted = came.quiet } in
-      opens_still stands ledger goes_on honest bytes past faults here same d (kept_after d (rule b x n).node) h is
+      let same : SameFile stands held snapshot_of goes_on honest bytes past faults j j' = record { settles = λ t k. (came.serving.file t).kept; reads = λ t. (came.same t).0; stops = λ t. (came.same t).1; counted = came.quiet } in
+      opens_still stands held snapshot_of goes_on honest bytes past faults here same d (kept_after d (rule b x n).node) h is
   every_moment (Err DiskFault) c' j' came h b x n s d is =
-      subst (λ (next : Durable). Leaves (OpensToOneOf goes_on d next) (past j.gated.disk) (past j'.gated.disk)) (kept_same stands ledger d came.whole (came.turned b x n s)) (came.any_moment h d is)
+      subst (λ (next : Durable). Leaves (OpensToOneOf goes_on d next) (past j.gated.disk) (past j'.gated.disk)) (kept_same stands held snapshot_of d came.above (came.turned b x n s)) (came.any_moment h d is)
   every_moment (Err (Stopped count)) c' j' came h b x n s d is = absurd came

@@ -1,5 +1,5 @@
 -- A core over a file that keeps the node that it stands for.
-use Rattle.std.proofs.Common.{◌≡◌, ℕ, Bool, List, Ok, IsTrue, map, sym, ap, ◌∙◌}
+use Rattle.std.proofs.Common.{◌≡◌, ℕ, Bool, List, Ok, IsTrue, drop, map, take, sym, ap, ◌∙◌}
 use Rattle.gl_entry.specs.Entry.{frame_bytes}
 use Rattle.gl_entry.specs.declared.entry.Entry.{Entry}
 use Rattle.gl_rules.specs.Identity.{NodeId}
@@ -7,34 +7,36 @@ use Rattle.gl_rules.specs.Book.{Book}
 use Rattle.gl_rules.specs.Node.{Node}
 use Rattle.gl_rules.specs.Replication.{restart}
 use Rattle.gl_outside.specs.Disk.{Step}
-use Rattle.gl_journal.specs.Durable.{Durable, GoesOn, durable, leaf_count}
+use Rattle.gl_journal.specs.Durable.{Durable, LogRules, durable, leaf_count}
 use Rattle.gl_journal.specs.Kept.{IsKept}
 use Rattle.gl_journal.specs.declared.journal.Journal.{Journal}
 use Rattle.gl_replication.specs.Holding.{Holding}
 use Rattle.gl_replication.specs.Stands.{StandsFor}
 use Rattle.gl_replication.specs.declared.node.Core.{Core}
-use Rattle.gl_node.specs.Persistence.{HoldsWhole, IsServing}
-use Rattle.gl_node.proofs.Standings.{log_of, reserved_of, view_of, vote_of}
+use Rattle.gl_node.specs.Kept.{Kept}
+use Rattle.gl_node.specs.Persistence.{HoldsAbove, IsServing, SnapshotOf}
+use Rattle.gl_node.proofs.Standings.{held_of, reserved_of, view_of, vote_of}
 
 -- a file with this durable state keeps a node
-pub record IsFileOfNode (d : Durable) (n : Node Entry) : Type 0 where
+pub record IsFileOfNode (snapshot_of : SnapshotOf) (d : Durable) (n : Node Entry) : Type 0 where
   pub view : d.view ≡ n.view
   pub vote : d.vote ≡ n.vote
-  pub base : d.base ≡ 0
-  pub log : d.log ≡ map frame_bytes n.log
+  pub base : d.base ≡ n.base
+  pub snapshot : d.snapshot ≡ snapshot_of (take n.base n.log)
+  pub log : d.log ≡ map frame_bytes (drop n.base n.log)
   pub reserved : d.reserved ≡ n.reserved
 
 -- a restart changes nothing of that
-pub restart_kept : {Q G R A F : Type 0} (b : Book Entry Q G R A F) (d : Durable) (n : Node Entry) → IsFileOfNode d n → IsFileOfNode d (restart {A = A} {F = F} b n).node
+pub restart_kept : {Q G R A F : Type 0} (b : Book Entry Q G R A F) (snapshot_of : SnapshotOf) (d : Durable) (n : Node Entry) → IsFileOfNode snapshot_of d n → IsFileOfNode snapshot_of d (restart {A = A} {F = F} b n).node
 unfolding restart
-restart_kept b d n f = record { view = f.view; vote = f.vote; base = f.base; log = f.log; reserved = f.reserved }
+restart_kept b snapshot_of d n f = record { view = f.view; vote = f.vote; base = f.base; snapshot = f.snapshot; log = f.log; reserved = f.reserved }
 
-module _ {D S Q G R A F : Type 0} (stands : S → Book Entry Q G R A F → Holding Entry → Type 0) (ledger : S → List Entry) (goes_on : GoesOn) (honest : Bool) (bytes : D → List ℕ) (past : D → List Step) where
-  pub serving_by : (c : Core S Q G R A F) (j : Journal D) (b : Book Entry Q G R A F) (x : NodeId) (n : Node Entry) → StandsFor stands c b x n → HoldsWhole stands ledger c.book →
-      (d : Durable) → (IsTrue honest → IsKept bytes past j × (durable goes_on (bytes j.gated.disk) ≡ Ok d)) → IsFileOfNode d n → leaf_count d ≡ b.leaves x → IsServing stands ledger goes_on honest bytes past c j
-  serving_by c j b x n s whole d opened f leaves = record {
+module _ {D S Q G R A F : Type 0} (stands : S → Book Entry Q G R A F → Holding Entry → Type 0) (held : S → Kept) (snapshot_of : SnapshotOf) (goes_on : LogRules) (honest : Bool) (bytes : D → List ℕ) (past : D → List Step) where
+  pub serving_by : (c : Core S Q G R A F) (j : Journal D) (b : Book Entry Q G R A F) (x : NodeId) (n : Node Entry) → StandsFor stands c b x n → HoldsAbove stands held snapshot_of c.book →
+      (d : Durable) → (IsTrue honest → IsKept bytes past j × (durable goes_on (bytes j.gated.disk) ≡ Ok d)) → IsFileOfNode snapshot_of d n → leaf_count d ≡ b.leaves x → IsServing stands held snapshot_of goes_on honest bytes past c j
+  serving_by c j b x n s above d opened f leaves = record {
     some = record { rules = b; me = x; node = n; standing = s };
-    whole = whole;
+    above = above;
     file = λ h. record {
       kept = (opened h).0;
       state = d;
@@ -42,8 +44,9 @@ module _ {D S Q G R A F : Type 0} (stands : S → Book Entry Q G R A F → Holdi
       keeps = record {
         view = f.view ∙ sym (view_of stands s);
         vote = f.vote ∙ sym (vote_of stands s);
-        base = f.base;
-        log = f.log ∙ ap (map frame_bytes) (log_of stands ledger whole s);
+        base = f.base ∙ (held_of stands held snapshot_of above s).base;
+        snapshot = f.snapshot ∙ (held_of stands held snapshot_of above s).snapshot;
+        log = f.log ∙ ap (map frame_bytes) (held_of stands held snapshot_of above s).entries;
         reserved = f.reserved ∙ sym (reserved_of stands s);
       };
       leaves = leaves;

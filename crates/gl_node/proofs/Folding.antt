@@ -8,7 +8,7 @@ use Rattle.gl_rules.specs.Identity.{NodeId}
 use Rattle.gl_rules.proofs.Ids.{same_is}
 use Rattle.gl_journal.specs.Records.{RecordValue, Vote, Cut, Append, Signer, then_some, record_body, record_bytes, records_bytes}
 use Rattle.gl_journal.specs.RecordView.{record_value, record_values}
-use Rattle.gl_journal.specs.Durable.{Durable, GoesOn, fold_record, fold_records, leaf_count}
+use Rattle.gl_journal.specs.Durable.{Durable, LogRules, fold_record, fold_records, leaf_count}
 use Rattle.gl_journal.specs.declared.record.Record.{Record}
 use Rattle.gl_node.specs.Batches.{Folds, records_size}
 use Rattle.gl_node.specs.Kept.{is_same_vote, with_vote}
@@ -30,7 +30,7 @@ size_push records new one is =
     let all = ap records_size is ∙ ap (λ (l : List RecordValue). length (records_bytes l)) (values_push records one) in
     omega (arith, all, bytes_push (record_values records) (record_value one), bytes_of (record_value one))
 
-module _ (goes_on : GoesOn) where
+module _ (goes_on : LogRules) where
   fold_push : (recs : List RecordValue) (rec : RecordValue) (d m next : Durable) → fold_records goes_on d recs ≡ Some m → fold_record goes_on m rec ≡ Some next → fold_records goes_on d (recs ++ rec ∷ []) ≡ Some next
   fold_push [] rec d m next so_far one =
       let here : d ≡ m = cc in
@@ -50,21 +50,22 @@ module _ (goes_on : GoesOn) where
 
   -- ---- a record that folds
 
+  not_less : (c r : ℕ) → r ≤ c → nat_lt c r ≡ false
+  not_less c r h = grind (arith, nat_tests)
+
   neither : (a b : Bool) → a ≡ false → b ≡ false → (a || b) ≡ false
   neither a b na nb = ap (λ (x : Bool). x || b) na ∙ nb
 
-  pub cut_folds : (m : Durable) (kept : ℕ) → m.base ≡ 0 → kept ≤ length m.log → fold_record goes_on m (Cut kept) ≡ Some (record m { log = take kept m.log })
-  cut_folds m kept base within =
+  pub cut_folds : (m : Durable) (kept : ℕ) → m.base ≤ kept → kept ≤ m.base + length m.log → fold_record goes_on m (Cut kept) ≡ Some (record m { log = take (kept - m.base) m.log })
+  cut_folds m kept above within =
       let low : nat_lt kept m.base ≡ false = grind (arith, nat_tests) in
-      let high : nat_lt (m.base + length m.log) kept ≡ false = grind (arith, nat_tests) in
-      let prefix : kept - m.base ≡ kept = omega (arith, base) in
+      let high : nat_lt (m.base + length m.log) kept ≡ false = not_less (m.base + length m.log) kept within in
       ap (λ (t : Bool). if t then None else Some (record m { log = take (kept - m.base) m.log })) (neither (nat_lt kept m.base) (nat_lt (m.base + length m.log) kept) low high)
-      ∙ ap (λ (k : ℕ). Some (record m { log = take k m.log })) prefix
 
   pub whole_folds : (m : Durable) (kept : ℕ) → length m.log ≤ kept → record m { log = take kept m.log } ≡ m
   whole_folds m kept all = ap (λ (l : List (List ℕ)). record m { log = l }) (take_all kept m.log all)
 
-  pub append_folds : (m : Durable) (frame : List ℕ) → goes_on m.log frame ≡ true → fold_record goes_on m (Append frame) ≡ Some (record m { log = m.log ++ frame ∷ [] })
+  pub append_folds : (m : Durable) (frame : List ℕ) → goes_on.appends m.snapshot m.log frame ≡ true → fold_record goes_on m (Append frame) ≡ Some (record m { log = m.log ++ frame ∷ [] })
   append_folds m frame goes = ap (λ (t : Bool). if t then Some (record m { log = m.log ++ frame ∷ [] }) else None) goes
 
   pub signer_folds : (m : Durable) (reserved : ℕ) → m.reserved ≤ reserved → reserved ≤ leaf_count m → fold_record goes_on m (Signer reserved) ≡ Some (record m { reserved = reserved })
@@ -72,9 +73,6 @@ module _ (goes_on : GoesOn) where
       let a : nat_lt reserved m.reserved ≡ false = grind (arith, nat_tests) in
       let b : nat_lt (leaf_count m) reserved ≡ false = not_less (leaf_count m) reserved high in
       ap (λ (t : Bool). if t then None else Some (record m { reserved = reserved })) (neither (nat_lt reserved m.reserved) (nat_lt (leaf_count m) reserved) a b)
-    where
-      not_less : (c r : ℕ) → r ≤ c → nat_lt c r ≡ false
-      not_less c r h = grind (arith, nat_tests)
 
   -- where a vote is another than before
   pub vote_folds : (m : Durable) (view : ℕ) (vote : Option NodeId) → m.view ≤ view → (m.view == view && is_same_vote m.vote vote) ≡ false → fold_record goes_on m (Vote view vote) ≡ Some (with_vote view vote m)

@@ -1,14 +1,14 @@
 -- Lists of frames, one more at a time.
-use Rattle.std.proofs.Common.{All, IsTrue, ◌≡◌, ◌≤◌, ◌<◌, ℕ, zero, suc, ◌+◌, ◌*◌, Bool, true, false, List, [], ◌∷◌, ◌++◌, length, take, drop, get_or, map, slice_get, Some, Vec, nat_le, ◌&&◌, if◌then◌else◌, refl, sym, ap, subst, ◌∙◌, arith, append_assoc, length-append, take-append-drop}
+use Rattle.std.proofs.Common.{All, IsTrue, ◌≡◌, ◌≤◌, ◌<◌, ℕ, zero, suc, ◌+◌, ◌*◌, Bool, true, false, List, [], ◌∷◌, ◌++◌, length, take, drop, get_or, map, slice_get, Option, Some, Vec, nat_le, ◌&&◌, if◌then◌else◌, refl, sym, ap, subst, ◌∙◌, arith, append_assoc, length-append, take-append-drop}
 use Rattle.std.specs.declared.alloc.Global.{Global}
 use Rattle.std.proofs.lemmas.Bool.Decides.{nat_tests}
-use Rattle.std.proofs.lemmas.List.Elements.{All-drop, All-head, All-tail}
+use Rattle.std.proofs.lemmas.List.Elements.{All-head, All-tail}
 use Rattle.std.proofs.lemmas.List.{take_more, take_at, map-append}
 use Rattle.gl_base.specs.LittleEndian.{little_endian}
 use Rattle.gl_base.proofs.LittleEndianLaws.{length-little_endian}
 use Rattle.gl_entry.specs.Entry.{body_bytes, body_limit, frame_bytes, is_entry}
 use Rattle.gl_entry.specs.declared.entry.Entry.{Entry}
-use Rattle.gl_journal.specs.Durable.{GoesOn}
+use Rattle.gl_journal.specs.Durable.{LogRules}
 use Rattle.gl_journal.specs.Kept.{HasBatchRoom}
 use Rattle.gl_journal.specs.Parts.{items_of}
 use Rattle.gl_journal.specs.declared.journal.Journal.{Journal}
@@ -53,15 +53,15 @@ items_append [] gs = refl
 items_append (f ∷ fs) gs = ap (λ (l : List (List ℕ)). f.items ∷ l) (items_append fs gs)
 
 -- a frame goes on those before it
-pub goes_next : (goes_on : GoesOn) (log : List (List ℕ)) (fs : List (Vec ℕ Global)) (i : ℕ) (f : Vec ℕ Global) → i < length fs → f ≡ get_or fs i f → EachGoesOn goes_on (log ++ items_of fs) → goes_on (log ++ items_of (take i fs)) f.items ≡ true
-goes_next goes_on log fs i f below is each =
+pub goes_next : (goes_on : LogRules) (snapshot : Option (List ℕ)) (log : List (List ℕ)) (fs : List (Vec ℕ Global)) (i : ℕ) (f : Vec ℕ Global) → i < length fs → f ≡ get_or fs i f → EachGoesOn goes_on snapshot (log ++ items_of fs) → goes_on.appends snapshot (log ++ items_of (take i fs)) f.items ≡ true
+goes_next goes_on snapshot log fs i f below is each =
     let prefix = log ++ items_of (take i fs) in
     let rest = items_of (drop (i + 1) fs) in
     let parts : items_of fs ≡ items_of (take i fs) ++ f.items ∷ rest =
     ap items_of (sym (take-append-drop i fs)) ∙ items_append (take i fs) (drop i fs) ∙ ap (λ (l : List (List ℕ)). items_of (take i fs) ++ l) (items_of_drop fs i f below is) in
     let whole : log ++ items_of fs ≡ prefix ++ f.items ∷ rest = ap (λ (l : List (List ℕ)). log ++ l) parts ∙ sym (append_assoc log (items_of (take i fs)) (f.items ∷ rest)) in
-    let goes = subst (EachGoesOn goes_on) whole each (length prefix) f.items (get_at prefix rest f.items) in
-    sym (ap (λ (l : List (List ℕ)). goes_on l f.items) (take_at prefix (f.items ∷ rest) (length prefix) refl)) ∙ goes
+    let goes = subst (EachGoesOn goes_on snapshot) whole each (length prefix) f.items (get_at prefix rest f.items) in
+    sym (ap (λ (l : List (List ℕ)). goes_on.appends snapshot l f.items) (take_at prefix (f.items ∷ rest) (length prefix) refl)) ∙ goes
 
 pub log_more : (log : List (List ℕ)) (fs : List (Vec ℕ Global)) (i : ℕ) (f : Vec ℕ Global) → i < length fs → f ≡ get_or fs i f → (log ++ items_of (take i fs)) ++ f.items ∷ [] ≡ log ++ items_of (take (i + 1) fs)
 log_more log fs i f below is = append_assoc log (items_of (take i fs)) (f.items ∷ []) ∙ ap (λ (l : List (List ℕ)). log ++ l) (sym (items_more fs i f below is))
@@ -133,10 +133,10 @@ frames_parts kept old new prefix =
     ∙ ap (λ (l : List (List ℕ)). l ++ map frame_bytes (drop kept new)) (map_take frame_bytes kept old)
 
 -- the last ones of the frames of entries, where these are a ledger's after a seqno
-pub frames_tail : (fs : List (Vec ℕ Global)) (es new : List Entry) (kept k : ℕ) → items_of fs ≡ map frame_if_fits es → drop kept new ≡ drop k es → All (λ e. IsTrue (is_entry e)) new →
+pub frames_tail : (fs : List (Vec ℕ Global)) (es new : List Entry) (kept k : ℕ) → items_of fs ≡ map frame_if_fits es → drop kept new ≡ drop k es → All (λ e. IsTrue (is_entry e)) (drop kept new) →
     items_of (drop k fs) ≡ map frame_bytes (drop kept new)
 frames_tail fs es new kept k made tail fit =
-    items_after k fs ∙ ap (drop k) made ∙ sym (map_drop frame_if_fits k es) ∙ ap (map frame_if_fits) (sym tail) ∙ frames_fit (drop kept new) (All-drop Fits kept new fit)
+    items_after k fs ∙ ap (drop k) made ∙ sym (map_drop frame_if_fits k es) ∙ ap (map frame_if_fits) (sym tail) ∙ frames_fit (drop kept new) fit
 
 -- memory for a batch is memory for a smaller one
 pub room_less : {D : Type 0} (room_end room_calls : D → ℕ) (j : Journal D) (size less : ℕ) → less ≤ size → HasBatchRoom room_end room_calls j size → HasBatchRoom room_end room_calls j less

@@ -1,3 +1,4 @@
+pub mod AboveBase
 pub mod ElectionSteps
 pub mod Extending
 pub mod Classes

@@ -39,7 +39,7 @@ of_turned n m t = record { reserved = t.reserved; used = t.used }
 of_kept : (n m : Node Entry) → IsAsKept n m → IsUnsigned n m
 of_kept n m k = record { reserved = let h = k.reserved in omega (arith, h); used = k.used }
 
-of_led : (n m : Node Entry) → IsLed n m → IsUnsigned n m
+of_led : (n m : Node Entry) → IsLed ⊥ n m → IsUnsigned n m
 of_led n m l = record { reserved = let h = l.reserved in omega (arith, h); used = l.used }
 
 as_before : (n : Node Entry) → IsUnsigned n n
@@ -121,7 +121,7 @@ module _ {Q G R A F : Type 0} (b : Book Entry Q G R A F) (x : NodeId) where
       go : (body : Body) → Quiet n (on_message b (message_to x m.from m.view (seen_body body)) n)
       go (RequestVote last) = of_turned n _ (request_vote_turned b x m.from m.view (position last) n)
       go (VoteReply granted) = of_turned n _ (vote_reply_turned b x m.from m.view granted n)
-      go (Append prev commit es) = of_led n _ (entries_led b x m.from m.view (position prev) es commit n)
+      go (Append prev commit es) = of_led n _ (entries_led b ⊥ x m.from m.view (position prev) es commit n (λ never. absurd never) (λ never. absurd never) (λ never. absurd never))
       go (AppendReply ok seqno) = of_turned n _ (append_answer_turned b x m.from m.view ok seqno n)
       go ProposeVote = of_turned n _ (propose_vote_turned b x m.from m.view n)
 

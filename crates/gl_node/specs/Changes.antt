@@ -1,5 +1,5 @@
 -- What an event may change of what a file keeps of a node.
-use Rattle.std.specs.Prelude.{◌≡◌, ℕ, ◌≤◌, List, [], ◌∷◌, ◌++◌, length, take}
+use Rattle.std.specs.Prelude.{◌≡◌, ℕ, ◌≤◌, List, [], ◌∷◌, ◌++◌, length, max, take}
 use Rattle.gl_base.specs.declared.tx_id.TxId.{TxId}
 use Rattle.gl_entry.specs.declared.entry.Entry.{Entry}
 use Rattle.gl_rules.specs.Identity.{NodeId}
@@ -11,8 +11,14 @@ use Rattle.gl_rules.specs.World.{on_message}
 use Rattle.gl_messages.specs.Message.{most_entries}
 use Rattle.gl_election.specs.Bridge.{message_to}
 use Rattle.gl_election.specs.Elections.{position}
+use Rattle.gl_replication.specs.Replies.{KeepsUpTo}
 use Rattle.gl_node.specs.declared.change.Change.{Change}
 use Rattle.gl_node.specs.declared.change.Change.TheVariants as changes
+
+-- The base and what stands up to it stay.
+pub record KeepsBase (n m : Node Entry) : Type 0 where
+  pub base : m.base ≡ n.base
+  pub below : take n.base m.log ≡ take n.base n.log
 
 -- Nothing is another.
 pub record IsAsKept (n m : Node Entry) : Type 0 where
@@ -49,6 +55,14 @@ pub record TakesEntries {Q G R A F : Type 0} (b : Book Entry Q G R A F) (x : Nod
     pub from : NodeId
     pub commit : ℕ
     pub is : step ≡ on_message b (message_to x from view (Append (position prev) es commit)) n
+
+-- A step leaves a node's log as it is up to a seqno, and this is that seqno or the base, whichever
+-- is greater.
+pub record KeepsAboveBase {A F : Type 0} (seqno : ℕ) (es : List Entry) (n : Node Entry)
+    (step : Step Entry A F) : Type 0 where
+  pub upto : ℕ
+  pub keeps : KeepsUpTo upto es n step
+  pub is : seqno ≡ max n.base upto
 
 -- A rule may change so much at x.
 abbrev pub MayChange : {Q G R A F : Type 0} →

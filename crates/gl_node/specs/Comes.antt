@@ -7,20 +7,21 @@ use Rattle.gl_rules.specs.Node.{Node}
 use Rattle.gl_rules.specs.Outcome as outcomes
 use Rattle.gl_outside.specs.Disk.{Step, IsImage, Leaves}
 use Rattle.gl_outside.specs.Fault.{Rose}
-use Rattle.gl_journal.specs.Durable.{Durable, GoesOn, durable, OpensToOneOf}
+use Rattle.gl_journal.specs.Durable.{Durable, LogRules, durable, OpensToOneOf}
 use Rattle.gl_journal.specs.declared.journal.Journal.{Journal}
 use Rattle.gl_replication.specs.Holding.{Holding}
 use Rattle.gl_replication.specs.Stands.{KeepsAll, Refuses, Reports, StandsFor, Steps}
 use Rattle.gl_replication.specs.declared.node.Core.{Core}
 use Rattle.gl_replication.specs.declared.done.Done.{Done}
 use Rattle.gl_replication.specs.declared.done.Refusal.{Refusal}
-use Rattle.gl_node.specs.Persistence.{HoldsWhole, IsServing, StandsForSome, kept_of}
+use Rattle.gl_node.specs.Kept.{Kept}
+use Rattle.gl_node.specs.Persistence.{HoldsAbove, IsServing, SnapshotOf, StandsForSome, kept_of}
 use Rattle.gl_node.specs.declared.fault.NodeFault.{NodeFault}
 use Rattle.gl_node.specs.declared.fault.NodeFault.TheVariants.{Refused, DiskFault, Stopped}
 
 module _ {D S Q G R A F : Type 0} (stands : S → Book Entry Q G R A F → Holding Entry → Type 0)
-    (ledger : S → List Entry) (goes_on : GoesOn) (honest : Bool) (bytes : D → List ℕ)
-    (past : D → List Step) (faults : D → ℕ)
+    (held : S → Kept) (snapshot_of : SnapshotOf) (goes_on : LogRules) (honest : Bool)
+    (bytes : D → List ℕ) (past : D → List Step) (faults : D → ℕ)
     (rule : Book Entry Q G R A F → NodeId → Node Entry → outcomes.Step Entry A F)
     (c : Core S Q G R A F) (j : Journal D) where
   -- This holds of the durable state that the file of an honest disk opens to.
@@ -32,17 +33,17 @@ module _ {D S Q G R A F : Type 0} (stands : S → Book Entry Q G R A F → Holdi
   -- the new core is kept.
   abbrev pub LeavesEither : Core S Q G R A F → Journal D → Type 0
   LeavesEither c' j' = OfState (λ d.
-      Leaves (OpensToOneOf goes_on d (kept_of ledger d c')) (past j.gated.disk)
+      Leaves (OpensToOneOf goes_on d (kept_of held d c')) (past j.gated.disk)
       (past j'.gated.disk))
 
   -- The event is done, and kept.
   pub record IsDone (done : Done S Q G R A F) (c' : Core S Q G R A F) (j' : Journal D)
       : Type 0 where
     pub steps : Steps stands rule c done c'
-    pub serving : IsServing stands ledger goes_on honest bytes past c' j'
-    pub kept : OfState (λ d. durable goes_on (bytes j'.gated.disk) ≡ Ok (kept_of ledger d c'))
+    pub serving : IsServing stands held snapshot_of goes_on honest bytes past c' j'
+    pub kept : OfState (λ d. durable goes_on (bytes j'.gated.disk) ≡ Ok (kept_of held d c'))
     pub after : OfState (λ d. (image : List ℕ) → IsImage (past j'.gated.disk) image →
-        durable goes_on image ≡ Ok (kept_of ledger d c'))
+        durable goes_on image ≡ Ok (kept_of held d c'))
     pub any_moment : LeavesEither c' j'
     pub quiet : faults j'.gated.disk ≡ faults j.gated.disk
 
@@ -51,7 +52,7 @@ module _ {D S Q G R A F : Type 0} (stands : S → Book Entry Q G R A F → Holdi
     where
       pub refused : Refuses stands rule c why
       pub keeps : KeepsAll stands c c'
-      pub serving : IsServing stands ledger goes_on honest bytes past c' j'
+      pub serving : IsServing stands held snapshot_of goes_on honest bytes past c' j'
       pub same : IsTrue honest → (bytes j'.gated.disk ≡ bytes j.gated.disk)
           × (past j'.gated.disk ≡ past j.gated.disk)
       pub quiet : faults j'.gated.disk ≡ faults j.gated.disk
@@ -60,7 +61,7 @@ module _ {D S Q G R A F : Type 0} (stands : S → Book Entry Q G R A F → Holdi
   pub record IsBroken (c' : Core S Q G R A F) (j' : Journal D) : Type 0 where
     pub turned : Reports stands c (λ b x n. StandsFor stands c' b x (rule b x n).node)
     pub some : StandsForSome stands c'
-    pub whole : HoldsWhole stands ledger c'.book
+    pub above : HoldsAbove stands held snapshot_of c'.book
     pub any_moment : LeavesEither c' j'
     pub rose : Rose (faults j.gated.disk) (faults j'.gated.disk)
 

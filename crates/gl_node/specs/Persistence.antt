@@ -1,36 +1,48 @@
 -- A node of some rules over a file that keeps it.
-use Rattle.std.specs.Prelude.{◌≡◌, ℕ, Bool, List, Option, None, Some, Ok, IsTrue, map}
+use Rattle.std.specs.Prelude.{◌≡◌, ◌≤◌, ℕ, Bool, List, Option, None, Some, Ok, IsTrue, drop, length, map, take}
 use Rattle.gl_entry.specs.Entry.{frame_bytes}
 use Rattle.gl_entry.specs.declared.entry.Entry.{Entry}
 use Rattle.gl_rules.specs.Identity.{NodeId}
 use Rattle.gl_rules.specs.Book.{Book}
 use Rattle.gl_rules.specs.Node.{Node}
 use Rattle.gl_outside.specs.Disk.{Step}
-use Rattle.gl_journal.specs.Durable.{Durable, GoesOn, durable, leaf_count}
+use Rattle.gl_journal.specs.Durable.{Durable, LogRules, durable, leaf_count}
 use Rattle.gl_journal.specs.Kept.{IsKept}
 use Rattle.gl_journal.specs.declared.journal.Journal.{Journal}
 use Rattle.gl_replication.specs.Holding.{Holding}
 use Rattle.gl_replication.specs.Standing.{At}
 use Rattle.gl_replication.specs.Stands.{StandsFor}
 use Rattle.gl_replication.specs.declared.node.Core.{Core}
-use Rattle.gl_node.specs.Kept.{keeping}
+use Rattle.gl_node.specs.Kept.{Kept, keeping}
 
-module _ {S Q G R A F : Type 0} (ledger : S → List Entry) where
+-- The bytes of the snapshot that stands for the entries of a ledger up to a base, if one does.
+abbrev pub SnapshotOf : Type 0
+SnapshotOf = List Entry → Option (List ℕ)
+
+-- What is held of a ledger: the snapshot of the entries up to its base, and the entries above.
+pub record IsHeldOf (snapshot_of : SnapshotOf) (kept : Kept) (h : Holding Entry) : Type 0 where
+  pub base : h.base ≡ kept.base
+  pub within : h.base ≤ length h.log
+  pub entries : drop h.base h.log ≡ kept.entries
+  pub snapshot : snapshot_of (take h.base h.log) ≡ kept.snapshot
+
+module _ {S Q G R A F : Type 0} (held : S → Kept) where
   -- What a file holds once it keeps what a core has.
   abbrev pub kept_of : Durable → Core S Q G R A F → Durable
-  kept_of d c = keeping d c.peer.view c.peer.vote (ledger c.book) c.leaves.reserved
+  kept_of d c = keeping d c.peer.view c.peer.vote (held c.book).entries c.leaves.reserved
 
   -- A file with this durable state keeps a core.
   pub record IsFileOf (d : Durable) (c : Core S Q G R A F) : Type 0 where
     pub view : d.view ≡ c.peer.view
     pub vote : d.vote ≡ c.peer.vote
-    -- the ledger is whole from seqno 1
-    pub base : d.base ≡ 0
-    pub log : d.log ≡ map frame_bytes (ledger c.book)
+    -- what is held of its ledger
+    pub base : d.base ≡ (held c.book).base
+    pub snapshot : d.snapshot ≡ (held c.book).snapshot
+    pub log : d.log ≡ map frame_bytes (held c.book).entries
     pub reserved : d.reserved ≡ c.leaves.reserved
 
   -- These bytes open to what keeps a core.
-  abbrev pub OpensToCore : GoesOn → List ℕ → Core S Q G R A F → Type 0
+  abbrev pub OpensToCore : LogRules → List ℕ → Core S Q G R A F → Type 0
   OpensToCore goes_on bytes c = (d : Durable) × (durable goes_on bytes ≡ Ok d) × IsFileOf d c
 
 module _ {S Q G R A F : Type 0} (stands : S → Book Entry Q G R A F → Holding Entry → Type 0) where
@@ -41,26 +53,26 @@ module _ {S Q G R A F : Type 0} (stands : S → Book Entry Q G R A F → Holding
     pub node : Node Entry
     pub standing : StandsFor stands c rules me node
 
-  -- Whatever ledger a store stands for is this one, whole from seqno 1.
-  abbrev pub HoldsWhole : (S → List Entry) → S → Type 0
-  HoldsWhole ledger s = At stands s (λ b h. (h.base ≡ 0) × (h.log ≡ ledger s))
+  -- Of whatever ledger a store stands for it holds this.
+  abbrev pub HoldsAbove : (S → Kept) → SnapshotOf → S → Type 0
+  HoldsAbove held snapshot_of s = At stands s (λ b h. IsHeldOf snapshot_of (held s) h)
 
 -- Over a disk with these bytes and this history.
 module _ {D S Q G R A F : Type 0} (stands : S → Book Entry Q G R A F → Holding Entry → Type 0)
-    (ledger : S → List Entry) (goes_on : GoesOn) (honest : Bool) (bytes : D → List ℕ)
-    (past : D → List Step) where
+    (held : S → Kept) (snapshot_of : SnapshotOf) (goes_on : LogRules) (honest : Bool)
+    (bytes : D → List ℕ) (past : D → List Step) where
   -- The journal's file is settled, and keeps the core, whose key has so many leaves.
   pub record IsKeptFile (c : Core S Q G R A F) (j : Journal D) (count : ℕ) : Type 0 where
     pub kept : IsKept bytes past j
     pub state : Durable
     pub opens : durable goes_on (bytes j.gated.disk) ≡ Ok state
-    pub keeps : IsFileOf ledger state c
+    pub keeps : IsFileOf held state c
     pub leaves : leaf_count state ≡ count
 
   -- The core stands for a node of some rules, and if the disk is honest the file keeps it.
   pub record IsServing (c : Core S Q G R A F) (j : Journal D) : Type 0 where
     pub some : StandsForSome stands c
-    pub whole : HoldsWhole stands ledger c.book
+    pub above : HoldsAbove stands held snapshot_of c.book
     pub file : IsTrue honest → IsKeptFile c j (some.rules.leaves some.me)
 
   -- So it is until the disk fails.

@@ -4,27 +4,30 @@ ghost use Rattle.std.specs.Prelude.{◌≡◌, ◌<◌, ◌^◌, All, IsTrue, le
 ghost use Rattle.gl_entry.specs.Entry.{frame_bytes, is_entry};
 ghost use Rattle.gl_replication.specs.Standing.{At};
 ghost use Rattle.gl_node.specs.Frames.{EachGoesOn};
-ghost use Rattle.gl_node.specs.Persistence.{HoldsWhole};
+ghost use Rattle.gl_node.specs.Persistence.{HoldsAbove};
 
 use crate::kept_book::KeptBook;
 use gl_config::NodeId;
 use gl_replication::{Core, Leaves};
 
-/// What a file keeps of a node but its entries, and their number.
+/// What a file keeps of a node but its entries, with the length of the ledger and the number of
+/// entries above its base.
 #[derive(Clone, Copy, Debug)]
 pub(crate) struct Before {
     pub(crate) view: u32,
     pub(crate) vote: Option<NodeId>,
     pub(crate) len: u64,
+    pub(crate) count: u64,
     pub(crate) leaves: Leaves,
 }
 
-/// How many entries a ledger has.
-pub(crate) fn ledger_len<B: KeptBook>(book: &B) -> u64
-    ensures len { result ≡ length (B.ledger book.now) }
-    ensures fit { All (λ e. IsTrue (is_entry e)) (B.ledger book.now) }
-    ensures follow { EachGoesOn B.goes_on (map frame_bytes (B.ledger book.now)) }
-    ensures whole { HoldsWhole B.stands B.ledger book.now }
+/// How many entries are held above the base.
+pub(crate) fn held_count<B: KeptBook>(book: &B) -> u64
+    ensures count { result ≡ length (B.held book.now).entries }
+    ensures fit { All (λ e. IsTrue (is_entry e)) (B.held book.now).entries }
+    ensures follow { EachGoesOn B.goes_on (B.held book.now).snapshot
+        (map frame_bytes (B.held book.now).entries) }
+    ensures above { HoldsAbove B.stands B.held B.snapshot_of book.now }
     ensures leaves { At B.stands book.now (λ b h. b.leaves h.me < 2 ^ 32) }
 {
     book.ledger().len() as u64
@@ -35,13 +38,15 @@ impl Before {
     pub(crate) fn of<B: KeptBook>(core: &Core<B>) -> Before
         ensures view { result.view ≡ core.now.peer.view }
         ensures vote { result.vote ≡ core.now.peer.vote }
-        ensures len { result.len ≡ length (B.ledger core.now.book) }
+        ensures len { At B.stands core.now.book (λ b h. result.len ≡ length h.log) }
+        ensures count { result.count ≡ length (B.held core.now.book).entries }
         ensures leaves { result.leaves ≡ core.now.leaves }
     {
         Before {
             view: core.peer.view,
             vote: core.peer.vote,
-            len: ledger_len(&core.book),
+            len: core.book.ledger_len(),
+            count: held_count(&core.book),
             leaves: core.leaves,
         }
     }

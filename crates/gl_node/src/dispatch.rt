@@ -10,13 +10,13 @@ ghost use Rattle.gl_node.specs.Comes.{Comes};
 ghost use Rattle.gl_node.specs.Persistence.{IsServing};
 
 use crate::change::{Change, change_of};
-use crate::changed::{Before, ledger_len};
+use crate::changed::Before;
 use crate::fault::NodeFault;
 use crate::frames::{frames_after, frames_of, room};
 use crate::kept_book::KeptBook;
 use crate::persist::keep;
 use crate::rollback::take_back;
-use crate::rule::step_core;
+use crate::rule::{kept_upto, step_core};
 use gl_base::TxId;
 use gl_entry::Entry;
 use gl_journal::Journal;
@@ -29,11 +29,11 @@ fn pass<D: Disk, B: KeptBook>(
     journal: &Journal<D>,
     event: &Event<B>,
 ) -> Result<Done<B>, NodeFault<B>>
-    requires serving { IsServing B.stands B.ledger B.goes_on D.honest D.bytes D.past core.old
-        journal.now }
+    requires serving { IsServing B.stands B.held B.snapshot_of B.goes_on D.honest D.bytes D.past
+        core.old journal.now }
     requires kept { Reports B.stands core.old (λ b x n. IsAsKept n (rule_of event.now b x n).node) }
-    ensures { Comes B.stands B.ledger B.goes_on D.honest D.bytes D.past D.faults
-        (rule_of event.now) core.old journal.now result core.new journal.now }
+    ensures { Comes B.stands B.held B.snapshot_of B.goes_on D.honest D.bytes D.past
+        D.faults (rule_of event.now) core.old journal.now result core.new journal.now }
 {
     match step_core(core, event) {
         Err(why) => Err(NodeFault::Refused(why)),
@@ -47,12 +47,12 @@ fn turn<D: Disk, B: KeptBook>(
     journal: &mut Journal<D>,
     event: &Event<B>,
 ) -> Result<Done<B>, NodeFault<B>>
-    requires serving { IsServing B.stands B.ledger B.goes_on D.honest D.bytes D.past core.old
-        journal.old }
+    requires serving { IsServing B.stands B.held B.snapshot_of B.goes_on D.honest D.bytes D.past
+        core.old journal.old }
     requires turned { Reports B.stands core.old
         (λ b x n. IsTurned n (rule_of event.now b x n).node) }
-    ensures { Comes B.stands B.ledger B.goes_on D.honest D.bytes D.past D.faults
-        (rule_of event.now) core.old journal.old result core.new journal.new }
+    ensures { Comes B.stands B.held B.snapshot_of B.goes_on D.honest D.bytes D.past
+        D.faults (rule_of event.now) core.old journal.old result core.new journal.new }
 {
     let before = Before::of(core);
     let records = match room(core.alloc, journal, &[]) {
@@ -62,7 +62,7 @@ fn turn<D: Disk, B: KeptBook>(
     match step_core(core, event) {
         Err(why) => Err(NodeFault::Refused(why)),
         Ok(done) => {
-            let kept = ledger_len(&core.book);
+            let kept = core.book.ledger_len();
             match keep(core, journal, &before, kept, &[], records) {
                 Ok(()) => Ok(done),
                 Err(_) => Err(NodeFault::DiskFault),
@@ -81,12 +81,12 @@ fn take<D: Disk, B: KeptBook>(
     entries: &[Entry],
 ) -> Result<Done<B>, NodeFault<B>>
     requires few { length entries.now ≤ most_entries }
-    requires serving { IsServing B.stands B.ledger B.goes_on D.honest D.bytes D.past core.old
-        journal.old }
+    requires serving { IsServing B.stands B.held B.snapshot_of B.goes_on D.honest D.bytes D.past
+        core.old journal.old }
     requires takes { Reports B.stands core.old (λ b x n.
         TakesEntries b x n view prev entries.now (rule_of event.now b x n)) }
-    ensures { Comes B.stands B.ledger B.goes_on D.honest D.bytes D.past D.faults
-        (rule_of event.now) core.old journal.old result core.new journal.new }
+    ensures { Comes B.stands B.held B.snapshot_of B.goes_on D.honest D.bytes D.past
+        D.faults (rule_of event.now) core.old journal.old result core.new journal.new }
 {
     let before = Before::of(core);
     let frames = match frames_of(core.alloc, entries) {
@@ -97,11 +97,11 @@ fn take<D: Disk, B: KeptBook>(
         Err(_) => return Err(NodeFault::Refused(Refusal::NoMemory)),
         Ok(records) => records,
     };
-    let kept = core.kept_upto(view, prev, entries);
+    let kept = kept_upto(core, view, prev, entries);
     match step_core(core, event) {
         Err(why) => Err(NodeFault::Refused(why)),
         Ok(done) => {
-            let count = ledger_len(&core.book) - kept;
+            let count = core.book.ledger_len() - kept;
             let new = &frames[frames.len() - count as usize..];
             match keep(core, journal, &before, kept, new, records) {
                 Ok(()) => Ok(done),
@@ -118,18 +118,18 @@ fn make<D: Disk, B: KeptBook>(
     journal: &mut Journal<D>,
     event: &Event<B>,
 ) -> Result<Done<B>, NodeFault<B>>
-    requires serving { IsServing B.stands B.ledger B.goes_on D.honest D.bytes D.past core.old
-        journal.old }
+    requires serving { IsServing B.stands B.held B.snapshot_of B.goes_on D.honest D.bytes D.past
+        core.old journal.old }
     requires extends { Reports B.stands core.old (λ b x n. Extends n (rule_of event.now b x n)) }
-    ensures { Comes B.stands B.ledger B.goes_on D.honest D.bytes D.past D.faults
-        (rule_of event.now) core.old journal.old result core.new journal.new }
+    ensures { Comes B.stands B.held B.snapshot_of B.goes_on D.honest D.bytes D.past
+        D.faults (rule_of event.now) core.old journal.old result core.new journal.new }
 {
     let before = Before::of(core);
     let done = match step_core(core, event) {
         Err(why) => return Err(NodeFault::Refused(why)),
         Ok(done) => done,
     };
-    let frames = match frames_after(core.alloc, &core.book, before.len) {
+    let frames = match frames_after(core.alloc, &core.book, before.count) {
         Err(_) => {
             take_back(core, &before);
             return Err(NodeFault::Refused(Refusal::NoMemory));
@@ -156,10 +156,10 @@ pub(crate) fn dispatch<D: Disk, B: KeptBook>(
     event: &Event<B>,
 ) -> Result<Done<B>, NodeFault<B>>
     requires few { has_few_entries event.now ≡ true }
-    requires serving { IsServing B.stands B.ledger B.goes_on D.honest D.bytes D.past core.old
-        journal.old }
-    ensures { Comes B.stands B.ledger B.goes_on D.honest D.bytes D.past D.faults
-        (rule_of event.now) core.old journal.old result core.new journal.new }
+    requires serving { IsServing B.stands B.held B.snapshot_of B.goes_on D.honest D.bytes D.past
+        core.old journal.old }
+    ensures { Comes B.stands B.held B.snapshot_of B.goes_on D.honest D.bytes D.past
+        D.faults (rule_of event.now) core.old journal.old result core.new journal.new }
 {
     let me = core.book.me();
     match change_of(event, &me) {

@@ -34,18 +34,18 @@ pub(crate) fn frames_of(alloc: Global, entries: &[Entry]) -> Result<Vec<Vec<u8>>
     Ok(frames)
 }
 
-/// The frames of a ledger's entries after a seqno.
+/// The frames of the entries above a ledger's base, after so many of them.
 pub(crate) fn frames_after<B: KeptBook>(
     alloc: Global,
     book: &B,
-    seqno: u64,
+    count: u64,
 ) -> Result<Vec<Vec<u8>>, AllocError>
-    requires { seqno ≤ length (B.ledger book.now) }
+    requires { count ≤ length (B.held book.now).entries }
     ensures { IfOk result (λ frames.
-        items_of frames.items ≡ map frame_bytes (drop seqno (B.ledger book.now))) }
+        items_of frames.items ≡ map frame_bytes (drop count (B.held book.now).entries)) }
 {
     let entries = book.ledger();
-    frames_of(alloc, &entries[seqno as usize..])
+    frames_of(alloc, &entries[count as usize..])
 }
 
 /// How many bytes the records of frames have.

@@ -1,9 +1,9 @@
 //! What an event changed, kept as one batch in memory that was taken before.
 
-ghost use Rattle.std.specs.Prelude.{map, Some, ◌≡◌, ◌==◌, ◌&&◌, ◌≤◌, ◌<◌, ◌+◌, ◌^◌, ◌++◌, ℕ, List, Ok, [], IsTrue, OnOk, IfOk, length, take, vec_len, vec_capacity};
+ghost use Rattle.std.specs.Prelude.{map, Some, ◌≡◌, ◌==◌, ◌&&◌, ◌≤◌, ◌<◌, ◌+◌, ◌-◌, ◌^◌, ◌++◌, ℕ, List, Ok, [], IsTrue, OnOk, IfOk, length, take, vec_len, vec_capacity};
 ghost use Rattle.gl_outside.specs.Disk.{IsImage, Leaves as LeavesOf};
 ghost use Rattle.gl_outside.specs.Fault.{Counts};
-ghost use Rattle.gl_journal.specs.Durable.{GoesOn, Durable as State, durable, leaf_count, OpensToOneOf};
+ghost use Rattle.gl_journal.specs.Durable.{LogRules, Durable as State, durable, leaf_count, OpensToOneOf};
 ghost use Rattle.gl_journal.specs.Kept.{IsKept, HasBatchRoom};
 ghost use Rattle.gl_journal.specs.Parts.{items_of};
 ghost use Rattle.gl_journal.specs.Records.{record_body};
@@ -66,7 +66,7 @@ fn record_of_turn(view: u32, vote: &Option<NodeId>) -> Record<'static>
 /// The view and the vote, where one of them is another.
 fn put_vote(records: &mut Vec<Record<'_>>, before: &Before, view: u32, vote: &Option<NodeId>)
     requires { vec_len records.old < vec_capacity records.old }
-    ensures folds { (goes_on : GoesOn) (d m : State) → Folds goes_on records.old.items d m →
+    ensures folds { (goes_on : LogRules) (d m : State) → Folds goes_on records.old.items d m →
         m.view ≡ before.now.view → m.vote ≡ before.now.vote → before.now.view ≤ view →
         Folds goes_on records.new.items d (with_vote view vote.now m) }
     ensures size { records_size records.new.items ≤ records_size records.old.items + 42 }
@@ -79,12 +79,12 @@ fn put_vote(records: &mut Vec<Record<'_>>, before: &Before, view: u32, vote: &Op
     records.push_reserved(record_of_turn(view, vote));
 }
 
-/// The length that the ledger is cut to, where entries are taken away.
+/// The seqno that the ledger is cut to, where entries are taken away.
 fn put_cut(records: &mut Vec<Record<'_>>, len: u64, kept: u64)
     requires { vec_len records.old < vec_capacity records.old }
-    ensures folds { (goes_on : GoesOn) (d m : State) → Folds goes_on records.old.items d m →
-        m.base ≡ 0 → length m.log ≡ len → kept ≤ len →
-        Folds goes_on records.new.items d (record m { log = take kept m.log }) }
+    ensures folds { (goes_on : LogRules) (d m : State) → Folds goes_on records.old.items d m →
+        m.base + length m.log ≡ len → m.base ≤ kept → kept ≤ len →
+        Folds goes_on records.new.items d (record m { log = take (kept - m.base) m.log }) }
     ensures size { records_size records.new.items ≤ records_size records.old.items + 13 }
     ensures len { vec_len records.new ≤ vec_len records.old + 1 }
     ensures capacity { vec_capacity records.new ≡ vec_capacity records.old }
@@ -97,8 +97,8 @@ fn put_cut(records: &mut Vec<Record<'_>>, len: u64, kept: u64)
 /// The entries that are new.
 fn put_appends<'a>(records: &mut Vec<Record<'a>>, frames: &'a [Vec<u8>])
     requires { vec_len records.old + length frames.now ≤ vec_capacity records.old }
-    ensures folds { (goes_on : GoesOn) (d m : State) → Folds goes_on records.old.items d m →
-        EachGoesOn goes_on (m.log ++ items_of frames.now) →
+    ensures folds { (goes_on : LogRules) (d m : State) → Folds goes_on records.old.items d m →
+        EachGoesOn goes_on m.snapshot (m.log ++ items_of frames.now) →
         Folds goes_on records.new.items d (record m { log = m.log ++ items_of frames.now }) }
     ensures size { records_size records.new.items
         ≤ records_size records.old.items + appends_size (items_of frames.now) }
@@ -114,7 +114,7 @@ fn put_appends<'a>(records: &mut Vec<Record<'a>>, frames: &'a [Vec<u8>])
 fn put_signer(records: &mut Vec<Record<'_>>, before: u64, reserved: u64)
     requires room { vec_len records.old < vec_capacity records.old }
     requires small { reserved < 2 ^ 32 }
-    ensures folds { (goes_on : GoesOn) (d m : State) → Folds goes_on records.old.items d m →
+    ensures folds { (goes_on : LogRules) (d m : State) → Folds goes_on records.old.items d m →
         m.reserved ≡ before → before ≤ reserved → reserved ≤ leaf_count m →
         Folds goes_on records.new.items d (record m { reserved = reserved }) }
     ensures size { records_size records.new.items ≤ records_size records.old.items + 9 }
@@ -132,16 +132,16 @@ fn commit<D: Disk>(journal: &mut Journal<D>, records: &[Record<'_>]) -> Result<(
     requires small { records_size records.now < 2 ^ 32 }
     requires room { HasBatchRoom D.room_end D.room_calls journal.old (records_size records.now) }
     ensures open { IsTrue D.honest → OnOk result (IsKept D.bytes D.past journal.new) }
-    ensures kept { IsTrue D.honest → (goes_on : GoesOn) (state next : State) →
+    ensures kept { IsTrue D.honest → (goes_on : LogRules) (state next : State) →
         durable goes_on (D.bytes journal.old.gated.disk) ≡ Ok state →
         Folds goes_on records.now state next →
         OnOk result (durable goes_on (D.bytes journal.new.gated.disk) ≡ Ok next) }
-    ensures after { IsTrue D.honest → (goes_on : GoesOn) (state next : State) →
+    ensures after { IsTrue D.honest → (goes_on : LogRules) (state next : State) →
         durable goes_on (D.bytes journal.old.gated.disk) ≡ Ok state →
         Folds goes_on records.now state next →
         OnOk result ((image : List ℕ) → IsImage (D.past journal.new.gated.disk) image →
         durable goes_on image ≡ Ok next) }
-    ensures any_moment { IsTrue D.honest → (goes_on : GoesOn) (state next : State) →
+    ensures any_moment { IsTrue D.honest → (goes_on : LogRules) (state next : State) →
         durable goes_on (D.bytes journal.old.gated.disk) ≡ Ok state →
         Folds goes_on records.now state next →
         LeavesOf (OpensToOneOf goes_on state next)
@@ -174,18 +174,18 @@ pub(crate) fn keep<'a, D: Disk, B: KeptBook>(
     ensures open { IsTrue D.honest → OnOk result (IsKept D.bytes D.past journal.new) }
     ensures kept { IsTrue D.honest → (d : State) →
         durable B.goes_on (D.bytes journal.old.gated.disk) ≡ Ok d →
-        IsChange B.ledger B.goes_on d before.now kept (items_of frames.now) core.now →
+        IsChange B.held B.goes_on d before.now kept (items_of frames.now) core.now →
         OnOk result (durable B.goes_on (D.bytes journal.new.gated.disk)
-        ≡ Ok (kept_of B.ledger d core.now)) }
+        ≡ Ok (kept_of B.held d core.now)) }
     ensures after { IsTrue D.honest → (d : State) →
         durable B.goes_on (D.bytes journal.old.gated.disk) ≡ Ok d →
-        IsChange B.ledger B.goes_on d before.now kept (items_of frames.now) core.now →
+        IsChange B.held B.goes_on d before.now kept (items_of frames.now) core.now →
         OnOk result ((image : List ℕ) → IsImage (D.past journal.new.gated.disk) image →
-        durable B.goes_on image ≡ Ok (kept_of B.ledger d core.now)) }
+        durable B.goes_on image ≡ Ok (kept_of B.held d core.now)) }
     ensures any_moment { IsTrue D.honest → (d : State) →
         durable B.goes_on (D.bytes journal.old.gated.disk) ≡ Ok d →
-        IsChange B.ledger B.goes_on d before.now kept (items_of frames.now) core.now →
-        LeavesOf (OpensToOneOf B.goes_on d (kept_of B.ledger d core.now))
+        IsChange B.held B.goes_on d before.now kept (items_of frames.now) core.now →
+        LeavesOf (OpensToOneOf B.goes_on d (kept_of B.held d core.now))
         (D.past journal.old.gated.disk) (D.past journal.new.gated.disk) }
     ensures faults { Counts (D.faults journal.old.gated.disk)
         (D.faults journal.new.gated.disk) result }

@@ -41,8 +41,8 @@ impl<D: Disk, B: KeptBook> Model for Replica<D, B> {
       stopped = r.stopped;
     } };
 
-    ghost invariant = { λ r. IsReplica B.stands B.ledger B.goes_on D.honest D.bytes D.past
-        r.core r.journal r.stopped };
+    ghost invariant = { λ r. IsReplica B.stands B.held B.snapshot_of B.goes_on D.honest D.bytes
+        D.past r.core r.journal r.stopped };
 }
 
 /// When a node has stopped, by what an event came to and by how often the disk has failed.
@@ -58,7 +58,8 @@ fn stopped_by<B: KeptBook>(came: &Result<Done<B>, NodeFault<B>>, faults: u64) ->
 impl<D: Disk, B: KeptBook> Replica<D, B> {
     /// A node whose file keeps it.
     pub fn new(core: Core<B>, journal: Journal<D>) -> Self
-        requires { IsServing B.stands B.ledger B.goes_on D.honest D.bytes D.past core journal }
+        requires { IsServing B.stands B.held B.snapshot_of B.goes_on D.honest D.bytes D.past
+            core journal }
         ensures { result
             ≡ record { core = core; disk = journal.gated.disk; stopped = None } }
     {
@@ -133,7 +134,7 @@ impl<D: Disk, B: KeptBook> Replica<D, B> {
     pub fn disk(&self) -> &D
         ensures disk { result.now ≡ self.now.disk }
         ensures keeps { IsTrue D.honest → self.now.stopped ≡ None →
-            OpensToCore B.ledger B.goes_on (D.bytes self.now.disk) self.now.core }
+            OpensToCore B.held B.goes_on (D.bytes self.now.disk) self.now.core }
         ensures at_rest { IsTrue D.honest → self.now.stopped ≡ None →
             IsAtRest (D.bytes self.now.disk) (D.past self.now.disk) }
     {

@@ -1,7 +1,7 @@
 //! Whether the recovery of a service is finished.
 
 ghost use Rattle.std.specs.Prelude.{◌≡◌};
-ghost use Rattle.gl_gov_rules.specs.Changes.{history};
+ghost use Rattle.gl_audit.specs.GovState.{history_of};
 ghost use Rattle.gl_recovery.specs.Finish.{finished};
 
 use gl_audit::GovState;
@@ -26,7 +26,7 @@ pub enum FinishFault {
 /// for; nor where the service has no recovery to finish. Takes no memory.
 #[tactic(auto, unfolding(crate::specs::Finish::finished))]
 pub fn finish(gov: &GovState) -> Result<(), FinishFault>
-    ensures { result ≡ finished (history gov.now) }
+    ensures { result ≡ finished (history_of gov.now) }
 {
     let past = gov.history();
     match past.service_state() {

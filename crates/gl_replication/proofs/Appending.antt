@@ -132,6 +132,7 @@ module _ {S Q G R A F : Type 0} where
   answers_undone (refusals.BelowBase base) n step a = undone_refused n step _ a
   answers_undone refusals.NotPeer n step a = undone_refused n step _ a
   answers_undone refusals.ViewLimit n step a = undone_refused n step _ a
+  answers_undone (refusals.NoLaterSignature commit) n step a = undone_refused n step _ a
   answers_undone (refusals.ByLedger why) n step a = undone_refused n step _ a
 
 -- who leads in a view, as the code tests it

@@ -73,7 +73,7 @@ module _ {S Q G R A F : Type 0} (stands : S → Book Entry Q G R A F → Holding
 
   pub may : {c : Core S Q G R A F} {b : Book Entry Q G R A F} {x : NodeId} {n : Node Entry} → StandsFor stands c b x n → (seqno : ℕ) (me : NodeId) (r signed : Bool) (cs : List Configuration) →
       seqno ≤ length n.log → c.commit < seqno → signed ≡ true → (n.base ≤ seqno → signed ≡ is_signature_in b c.peer.view (entry_at n.log seqno)) → me ≡ x →
-      ((commit : ℕ) → n.base ≤ commit → sets_of (active_of cs commit) ≡ active b (take seqno n.log) commit) →
+      (n.base ≤ seqno → (commit : ℕ) → n.base ≤ commit → sets_of (active_of cs commit) ≡ active b (take seqno n.log) commit) →
       r ≡ quorum (holds me seqno (held c.matched.items)) (sets_of (active_of cs c.commit)) → r ≡ may_commit b x n seqno
   may {c} {b} {x} {n} s seqno me r signed cs w above is reported mine active_is result =
       let commit_is : c.commit ≡ n.commit = ap (λ (m : Node Entry). m.commit) s.same in
@@ -83,5 +83,5 @@ module _ {S Q G R A F : Type 0} (stands : S → Book Entry Q G R A F → Holding
       (ap (λ v. is_signature_in b v (entry_at n.log seqno)) (sym view_is) ∙ sym (reported (omega (arith, s.above))) ∙ is)
       (result
       ∙ ap (λ m. quorum (holds me seqno (held c.matched.items)) (sets_of (active_of cs m))) commit_is
-      ∙ ap (quorum (holds me seqno (held c.matched.items))) (active_is n.commit s.above ∙ active_cut b n.log n.commit seqno (omega arith) w)
+      ∙ ap (quorum (holds me seqno (held c.matched.items))) (active_is (omega (arith, s.above)) n.commit s.above ∙ active_cut b n.log n.commit seqno (omega arith) w)
       ∙ quorum_same _ _ (λ y. ap (λ m. same y m || nat_le seqno (held c.matched.items y)) mine ∙ ap (λ m. same y x || nat_le seqno m) (s.matched y)) (active_upto b n.log n.commit seqno))

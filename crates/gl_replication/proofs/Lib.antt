@@ -13,3 +13,4 @@ pub mod Peers
 pub mod NodeReadings
 pub mod KeptPrefixes
 pub mod Bringing
+pub mod Installs

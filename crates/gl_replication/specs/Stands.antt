@@ -7,7 +7,7 @@ use Rattle.gl_entry.specs.declared.entry.Entry.{Entry}
 use Rattle.gl_rules.specs.Identity.{NodeId}
 use Rattle.gl_rules.specs.Book.{Book}
 use Rattle.gl_rules.specs.Node.{Node}
-use Rattle.gl_rules.specs.Outcome.{Step, Refused, NotPrimary, TooManyPending, NotReserved, KeyExhausted, NothingToSign, RemovalNotCommitted, BelowCommit, BelowBase, NotPeer, ViewLimit}
+use Rattle.gl_rules.specs.Outcome.{Step, Refused, NotPrimary, TooManyPending, NotReserved, KeyExhausted, NothingToSign, RemovalNotCommitted, BelowCommit, BelowBase, NotPeer, ViewLimit, NoLaterSignature}
 use Rattle.gl_rules.specs.Outcome as outcomes
 use Rattle.gl_messages.specs.declared.message.Message.{Message}
 use Rattle.gl_election.specs.declared.elected.Elected.{Elected}
@@ -63,6 +63,7 @@ module _ {S Q G R A F : Type 0} where
   Answers (refusals.BelowBase base) o = o ≡ Refused (BelowBase base)
   Answers refusals.NotPeer o = o ≡ Refused NotPeer
   Answers refusals.ViewLimit o = o ≡ Refused ViewLimit
+  Answers (refusals.NoLaterSignature commit) o = o ≡ Refused (NoLaterSignature commit)
   Answers (refusals.ByLedger why) o = o ≡ Refused (outcomes.ByLedger why)
 
   -- What a peer refuses, as the core does.

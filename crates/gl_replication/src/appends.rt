@@ -1,14 +1,16 @@
 //! A leader's entries at a node.
 
-ghost use Rattle.std.specs.Prelude.{ℕ, ◌≡◌, ◌≤◌, ◌<◌, ◌+◌, ◌^◌, ◌&&◌, ◌==◌, nat_lt, [], if◌then◌else◌, map, take, drop, length, true, Ok, IfOk, IfErr, OnErr};
+ghost use Rattle.std.specs.Prelude.{ℕ, ◌≡◌, ◌≤◌, ◌<◌, ◌+◌, ◌^◌, ◌&&◌, ◌==◌, nat_lt, [], if◌then◌else◌, map, take, drop, length, true, false, None, Ok, IfOk, IfErr, OnErr};
 ghost use Rattle.gl_base.specs.Answers.{Fails};
 ghost use Rattle.gl_rules.specs.Identity.{NodeId};
 ghost use Rattle.gl_rules.specs.Message.{Append};
+ghost use Rattle.gl_rules.specs.Node.{Follower};
 ghost use Rattle.gl_rules.specs.World.{on_message};
 ghost use Rattle.gl_rules.specs.Steps.{cut_to, one_more_cut, enter_view, update_view};
 ghost use Rattle.gl_rules.specs.Replication.{checked_append, commit_after, become_follower, merge_if_matching, matching_prefix_len, highest_possible_match, merge_entries};
 ghost use Rattle.gl_election.specs.Elections.{position};
 ghost use Rattle.gl_election.specs.Bridge.{message_to, seen_message};
+ghost use Rattle.gl_replication.specs.Standing.{At};
 ghost use Rattle.gl_replication.specs.Stands.{Grows, KeepsAll, Refuses, Replies, Reports, Steps, Turns};
 ghost use Rattle.gl_replication.specs.declared.done.Outcome.TheVariants as answers;
 ghost use Rattle.gl_replication.specs.Replies.{KeepsUpTo, is_matching, is_leading, append_reply_to, following};
@@ -28,6 +30,7 @@ impl<B: Book> Core<B> {
     /// The length of the log once it is in this view.
     fn len_in_view(&self, view: u32) -> u64
         ensures limit { result < 2 ^ 40 }
+        ensures base { At B.stands self.now.book (λ b h. h.base ≤ result) }
         ensures within { Reports B.stands self.now (λ b x n. result ≤ length n.log) }
         ensures value { Reports B.stands self.now (λ b x n. (update_view b view n).log ≡ take
             result n.log) }
@@ -44,15 +47,28 @@ impl<B: Book> Core<B> {
     {
         let seqno = self.book.last_signature().seqno;
         self.cut_to(seqno);
+        self.begin_view(view);
+    }
+}
+
+impl<B: Book> Core<B> {
+    /// A view begins: no vote, no leader. The log stays.
+    pub(crate) fn begin_view(&mut self, view: u32)
+        ensures { Turns B.stands (λ b n. record n {
+          view = view;
+          vote = None;
+          role = Follower;
+          leader = None;
+          votes = [];
+        }) self.old self.new }
+    {
         self.peer.view = view;
         self.peer.vote = None;
         self.peer.role = Role::Follower;
         self.peer.leader = None;
         self.peer.votes = NodeSet::new(Vec::new(self.alloc));
     }
-}
 
-impl<B: Book> Core<B> {
     /// Whether the log up to a length has an entry of this view at this seqno, or the seqno is 0.
     #[tactic(auto, using(crate::proofs::Prefixes::matching))]
     fn is_matching(&self, len: u64, prev: TxId) -> bool
@@ -177,6 +193,7 @@ impl<B: Book> Core<B> {
 
     /// The log cut to a seqno, and these entries after it. All or nothing.
     fn append_after(&mut self, seqno: u64, entries: &[Entry]) -> Result<(), OrNoMemory<B::Refused>>
+        requires base { At B.stands self.old.book (λ b h. h.base ≤ seqno) }
         ensures grown { IfOk result (λ r. Grows B.stands (λ b n l. checked_append b n.base (take
             seqno n.log) entries.now ≡ Ok l) (λ b n l. record n { log = l }) self.old self.new) }
         ensures refused { IfErr result (λ e. Reports B.stands self.old (λ b x n. Fails e
@@ -197,6 +214,7 @@ impl<B: Book> Core<B> {
         entries: &[Entry],
     ) -> Result<(), OrNoMemory<B::Refused>>
         requires within { seqno ≤ len }
+        requires base { At B.stands self.old.book (λ b h. h.base ≤ seqno) }
         requires len { Reports B.stands self.old (λ b x n. (len ≤ length n.log) × ((update_view b
             view n).log ≡ take len n.log)) }
         ensures grown { IfOk result (λ r. Grows B.stands (λ b n l. checked_append b n.base (take
@@ -218,11 +236,14 @@ impl<B: Book> Core<B> {
         }
     }
 
-    /// Whether a log of this length is cut at a seqno below commit.
+    /// Whether a log of this length, not below the base, is cut at a seqno below commit.
     fn is_cut_below(&self, len: u64, seqno: u64) -> bool
-        ensures { result ≡ (nat_lt seqno len && nat_lt seqno self.now.commit) }
+        requires len { At B.stands self.now.book (λ b h. h.base ≤ len) }
+        ensures value { Reports B.stands self.now (λ b x n.
+            result ≡ (nat_lt seqno len && nat_lt seqno n.commit)) }
+        ensures base { result ≡ false → At B.stands self.now.book (λ b h. h.base ≤ seqno) }
     {
-        seqno < len && seqno < self.commit
+        seqno < len && seqno < self.commit_from_base()
     }
 
     /// The entries up to a seqno are accept_entries: commit rises, and the leader is answered. The
@@ -251,6 +272,7 @@ impl<B: Book> Core<B> {
     ) -> Result<Done<B>, Refusal<B>>
         requires within { (prev + held ≤ len) × (held ≤ length entries.now) × (len < 2 ^ 40) }
         requires view { self.old.peer.view ≤ view }
+        requires base { At B.stands self.old.book (λ b h. h.base ≤ len) }
         requires len { Reports B.stands self.old (λ b x n. (len ≤ length n.log) × ((update_view b
             view n).log ≡ take len n.log)) }
         ensures steps { IfOk result (λ done. Steps B.stands (λ b x n. merge_entries b x y prev

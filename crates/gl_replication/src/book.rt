@@ -6,7 +6,7 @@ ghost use Rattle.gl_entry.specs.declared.entry.Entry.{Entry as Item};
 ghost use Rattle.gl_rules.specs.Book.{Book as Rules};
 ghost use Rattle.gl_rules.specs.Log.{entry_at, greatest_recorded, is_signature_in, last_signature, last_signature_position, view_at};
 ghost use Rattle.gl_rules.specs.Configuration.{active, configurations_above};
-ghost use Rattle.gl_rules.specs.Replication.{batch, checked_append, greatest_evidence};
+ghost use Rattle.gl_rules.specs.Replication.{batch, checked_append, greatest_evidence, is_reached};
 ghost use Rattle.gl_config.specs.Active.{above, active_of, sets_of};
 ghost use Rattle.gl_election.specs.Bridge.{tx_id};
 ghost use Rattle.gl_replication.specs.Holding.{Holding};
@@ -63,15 +63,18 @@ pub trait Book: Drop {
     fn last_signature(&self) -> TxId
         ensures value { At stands self.now (λ b h. result ≡ tx_id (last_signature_position b
             h.log)) }
+        ensures base { At stands self.now (λ b h. h.base ≤ result.seqno) }
         ensures within { result.seqno < 2 ^ 40 };
 
     /// The greatest commit that a signature records; the base counts as one.
     fn known_commit(&self) -> u64
         ensures { At stands self.now (λ b h. result ≡ max h.base (greatest_recorded b h.log)) };
 
-    /// The seqno of the last signature up to a seqno, 0 where there is none.
+    /// The seqno of the last signature up to a seqno, if that isn't below the base; else one that
+    /// isn't above the base.
     fn signature_upto(&self, seqno: u64) -> u64
-        ensures { At stands self.now (λ b h. result ≡ last_signature b (take seqno h.log)) };
+        ensures { At stands self.now (λ b h.
+            max h.base result ≡ max h.base (last_signature b (take seqno h.log))) };
 
     /// The seqno of the last evidence entry above the base and up to a seqno, if there is one.
     fn evidence_upto(&self, seqno: u64) -> Option<u64>
@@ -91,26 +94,31 @@ pub trait Book: Drop {
             result ≡ is_signature_in b view (entry_at h.log seqno)) };
 
     /// Configurations that give the active ones of the ledger cut to a seqno, and those above
-    /// commit, at each commit that is not below the base.
+    /// commit, at each commit; neither seqno is below the base.
     fn configurations(&self, upto: u64) -> &[Configuration]
         ensures ascending { AllPairs (λ c d. c.seqno < d.seqno) result.now }
-        ensures active { At stands self.now (λ b h. (commit : ℕ) → h.base ≤ commit →
+        ensures active { At stands self.now (λ b h. h.base ≤ upto → (commit : ℕ) →
+            h.base ≤ commit →
             sets_of (active_of result.now commit) ≡ active b (take upto h.log) commit) }
-        ensures above { At stands self.now (λ b h. (commit : ℕ) → h.base ≤ commit →
-            sets_of (above commit result.now)
+        ensures above { At stands self.now (λ b h. h.base ≤ upto → (commit : ℕ) →
+            h.base ≤ commit → sets_of (above commit result.now)
             ≡ configurations_above b (take upto h.log) commit (length (take upto h.log))) };
 
-    /// The nodes that the ledger cut to a seqno records, in the order in which they were recorded.
+    /// The nodes that the ledger cut to a seqno, not below the base, records, in the order in which
+    /// they were recorded.
     fn recorded_nodes(&self, upto: u64) -> &[NodeId]
-        ensures { At stands self.now (λ b h. result.now ≡ b.recorded_nodes (take upto h.log)) };
+        ensures { At stands self.now (λ b h. h.base ≤ upto →
+            result.now ≡ b.recorded_nodes (take upto h.log)) };
 
     /// The seqno of the entry that removed a node, if there is one.
     fn removal(&self, node: &NodeId) -> Option<u64>
         ensures { At stands self.now (λ b h. result ≡ b.removal h.log node.now) };
 
-    /// The seqno of the mark after its removal, if there is one.
+    /// The seqno of the mark after its removal, if there is one. A mark below the base may be told
+    /// by any seqno that isn't above the base.
     fn mark(&self, node: &NodeId) -> Option<u64>
-        ensures { At stands self.now (λ b h. result ≡ b.mark h.log node.now) };
+        ensures { At stands self.now (λ b h. (commit : ℕ) → h.base ≤ commit →
+            is_reached result commit ≡ is_reached (b.mark h.log node.now) commit) };
 
     /// The node that a request of governance marks, if it is a mark.
     fn marked_node(&self, request: &Self::Gov) -> Option<NodeId>
@@ -149,9 +157,11 @@ pub trait Book: Drop {
             Fails e (b.govern h.log view request.now))) }
         ensures err { OnErr result (Stays stands self.old self.new) };
 
-    /// Takes a signature by this leaf that records this commit, and tells its view.
+    /// Takes a signature by this leaf that records this commit, not below the base, and tells its
+    /// view.
     fn sign(&mut self, leaf: u64, view: u32, commit: u64) -> Result<u32, OrNoMemory<Self::Refused>>
         requires leaf { At stands self.old (λ b h. leaf < b.leaves h.me) }
+        requires commit { At stands self.old (λ b h. h.base ≤ commit) }
         ensures made { IfOk result (λ r. Enters stands self.old self.new (λ b h e.
             (b.sign h.me leaf h.log view commit ≡ Ok e) × (r ≡ b.view_of e))) }
         ensures refused { IfErr result (λ e. At stands self.old (λ b h.
@@ -166,20 +176,22 @@ pub trait Book: Drop {
             Fails e (b.evidence h.log view))) }
         ensures err { OnErr result (Stays stands self.old self.new) };
 
-    /// Cuts the ledger to a seqno and appends these entries, each of which has to follow: on a
-    /// copy, all or nothing.
+    /// Cuts the ledger to a seqno, not below the base, and appends these entries, each of which has
+    /// to follow: on a copy, all or nothing.
     fn replace_tail(
         &mut self,
         seqno: u64,
         entries: &[Entry],
     ) -> Result<(), OrNoMemory<Self::Refused>>
+        requires base { At stands self.old (λ b h. h.base ≤ seqno) }
         ensures replaced { IfOk result (λ r. Becomes stands self.old self.new (λ b h log.
             checked_append b h.base (take seqno h.log) entries.now ≡ Ok log)) }
         ensures refused { IfErr result (λ e. At stands self.old (λ b h.
             Fails e (checked_append b h.base (take seqno h.log) entries.now))) }
         ensures err { OnErr result (Stays stands self.old self.new) };
 
-    /// Cuts the ledger to a seqno.
+    /// Cuts the ledger to a seqno, not below the base.
     fn cut(&mut self, to: u64)
+        requires base { At stands self.old (λ b h. h.base ≤ to) }
         ensures { Becomes stands self.old self.new (λ b h log. log ≡ take to h.log) };
 }

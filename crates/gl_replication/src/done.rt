@@ -53,6 +53,9 @@ pub enum Refusal<B: Book> {
     BelowBase(u64),
     /// The view is the last one.
     ViewLimit,
+    /// The node that was asked for a snapshot has no evidence below a committed signature; and its
+    /// commit.
+    NoLaterSignature(u64),
     /// The ledger takes no entry.
     ByLedger(B::Refused),
 }

@@ -1,6 +1,6 @@
 //! Elections at a node: what its peer does, over its own log.
 
-ghost use Rattle.std.specs.Prelude.{◌≡◌, ◌&&◌, filter, not, take, IfOk, IfErr, OnErr};
+ghost use Rattle.std.specs.Prelude.{◌≡◌, ◌≤◌, ◌&&◌, filter, not, take, IfOk, IfErr, OnErr};
 ghost use Rattle.gl_rules.specs.Identity.{same};
 ghost use Rattle.gl_rules.specs.Log.{last_signature};
 ghost use Rattle.gl_rules.specs.Configuration.{in_some, others};
@@ -12,6 +12,7 @@ ghost use Rattle.gl_election.specs.Elections.{position};
 ghost use Rattle.gl_config.specs.Active.{sets_of};
 ghost use Rattle.gl_election.specs.Bridge.{begin_leading, message_to};
 ghost use Rattle.gl_election.specs.declared.elected.ElectionOutcome.TheVariants.{BecameLeader};
+ghost use Rattle.gl_replication.specs.Standing.{At};
 ghost use Rattle.gl_replication.specs.Stands.{KeepsAll, Refuses, Reports, Settles, Steps, Turns, refusal_of};
 
 use crate::book::Book;
@@ -59,6 +60,7 @@ fn refusal_of<B: Book>(why: OrNoMemory<ElectionRefusal>) -> Refusal<B>
 impl<B: Book> Core<B> {
     /// Cuts the log to a seqno, which is counted where an entry is taken away.
     pub(crate) fn cut_to(&mut self, seqno: u64)
+        requires base { At B.stands self.old.book (λ b h. h.base ≤ seqno) }
         ensures { Turns B.stands (λ b n. cut_to seqno n) self.old self.new }
     {
         if seqno < self.book.ledger_len() {
@@ -83,10 +85,10 @@ impl<B: Book> Core<B> {
         self.next.clear();
     }
 
-    /// The other nodes of the active configurations of the log cut to a seqno, in the order in
-    /// which they were recorded.
+    /// The other nodes of the active configurations of the log cut to a seqno, not below the base,
+    /// in the order in which they were recorded.
     fn others(&self, upto: u64) -> Result<Vec<NodeId>, AllocError>
-        ensures { IfOk result (λ nodes. Reports B.stands self.now (λ b x n.
+        ensures { IfOk result (λ nodes. Reports B.stands self.now (λ b x n. n.base ≤ upto →
             nodes.items ≡ others b x (record n { log = take upto n.log }))) }
     {
         let active = Active::of(self.book.configurations(upto), self.commit);

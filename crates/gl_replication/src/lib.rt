@@ -17,6 +17,7 @@ mod node;
 mod progress;
 mod readers;
 mod replicate;
+mod snapshots;
 mod start;
 mod step;
 
@@ -25,3 +26,4 @@ pub use done::{Done, Outcome, Refusal};
 pub use event::Event;
 pub use leaves::Leaves;
 pub use node::Core;
+pub use snapshots::{Offer, Snapshots};

@@ -70,6 +70,14 @@ impl<B: Book> Core<B> {
         }
     }
 
+    /// Commit; it is never below the base.
+    pub(crate) fn commit_from_base(&self) -> u64
+        ensures value { Reports B.stands self.now (λ b x n. result ≡ n.commit) }
+        ensures base { At B.stands self.now.book (λ b h. h.base ≤ result) }
+    {
+        self.commit.max(self.book.base())
+    }
+
     /// Whether each reserved leaf is used. A leaf that isn't is one that the key has.
     fn is_exhausted(&self) -> bool
         ensures value { Reports B.stands self.now (λ b x n. result ≡ (n.used == n.reserved)) }
@@ -97,10 +105,8 @@ impl<B: Book> Core<B> {
         if self.book.is_signature_in(self.peer.view, len) {
             return Err(Refusal::NothingToSign(len));
         }
-        match self
-            .book
-            .sign(self.leaves.used, self.peer.view, self.commit)
-        {
+        let commit = self.commit_from_base();
+        match self.book.sign(self.leaves.used, self.peer.view, commit) {
             Ok(view) => {
                 self.leaves.used += 1;
                 Ok(Done {

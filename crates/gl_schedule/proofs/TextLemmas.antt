@@ -66,6 +66,7 @@ printed_other (refusals.BelowCommit commit seqno) reason printed = refl
 printed_other refusals.NotPeer reason printed = refl
 printed_other (refusals.BelowBase base) reason printed = refl
 printed_other refusals.ViewLimit reason printed = refl
+printed_other (refusals.NoLaterSignature commit) reason printed = refl
 printed_other (refusals.ByLedger why) reason printed = refl
 
 -- a refusal other than running out of memory is the one that the rules know
@@ -81,6 +82,7 @@ refused_by (refusals.BelowCommit commit seqno) o other answers = (outcome.BelowC
 refused_by refusals.NotPeer o other answers = (outcome.NotPeer, refl, answers)
 refused_by (refusals.BelowBase base) o other answers = (outcome.BelowBase base, refl, answers)
 refused_by refusals.ViewLimit o other answers = (outcome.ViewLimit, refl, answers)
+refused_by (refusals.NoLaterSignature commit) o other answers = (outcome.NoLaterSignature commit, refl, answers)
 refused_by (refusals.ByLedger why) o other answers = (outcome.ByLedger why, refl, answers)
 
 -- its text is that of the outcome

@@ -7,7 +7,7 @@ use Rattle.gl_ledger.specs.LedgerBook.{ServiceBook}
 use Rattle.gl_outside.specs.Disk.{Leaves, Step}
 use Rattle.gl_outside.specs.Fault.{Rose}
 use Rattle.gl_outside.proofs.Moments.{so_too}
-use Rattle.gl_journal.specs.Durable.{Durable, GoesOn, durable, journal_header}
+use Rattle.gl_journal.specs.Durable.{Durable, LogRules, durable, journal_header}
 use Rattle.gl_journal.specs.Kept.{IsAtRest}
 use Rattle.gl_journal.specs.Parts.{HasGate}
 use Rattle.gl_journal.specs.declared.fault.JournalFault.{JournalFault}
@@ -15,7 +15,7 @@ use Rattle.gl_replication.specs.Events.{rule_of}
 use Rattle.gl_replication.specs.declared.event.Event.TheVariants as events
 use Rattle.gl_replication.specs.Holding.{Holding}
 use Rattle.gl_replication.specs.Stands.{StandsFor}
-use Rattle.gl_node.specs.Kept.{kept_after}
+use Rattle.gl_node.specs.Kept.{Kept, kept_after}
 use Rattle.gl_node.specs.declared.fault.NodeFault.TheVariants.{Refused, DiskFault, Stopped}
 use Rattle.gl_node.proofs.SignedLeaves.{reserved_before}
 use Rattle.gl_outside.specs.Link.{Arrival, Exchange}
@@ -41,7 +41,7 @@ use Rattle.gl_serve.proofs.Stopping.{serve_stopped}
 use Rattle.gl_serve.proofs.KeepingEvents.{life_is_kept}
 use Rattle.gl_serve.proofs.Living.{serve_lives, still}
 
-module _ {D S : Type 0} (stands : S → ServiceBook → Holding Entry → Type 0) (goes_on : GoesOn) (honest : Bool) (bytes : D → List ℕ) (past : D → List Step) (faults : D → ℕ) where
+module _ {D S : Type 0} (stands : S → ServiceBook → Holding Entry → Type 0) (goes_on : LogRules) (honest : Bool) (bytes : D → List ℕ) (past : D → List Step) (faults : D → ℕ) where
   abbrev Live : NodeSeen D S → List (Lived S) → NodeSeen D S → Type 0
   Live first life last = Lives stands goes_on honest bytes past faults first life last
 
@@ -192,10 +192,10 @@ module _ {D S : Type 0} (stands : S → ServiceBook → Holding Entry → Type 0
       life_failed life.0 first last life.1 going (stopped_ends last (serve_stopped (serving_rules stands goes_on honest bytes past faults) settings reported first last before after ahead left t))
 
   -- whatever it came to, its file has the same key and no fewer spent leaves
-  pub serve_keeps : (ledger : S → List Entry) (reported : Bool) (settings : Serving) (first last : NodeSeen D S) (before after : List Exchange) (ahead left : List Arrival) (result : Result (ℕ × ℕ) ServeEnd) →
-      Serves reported (serving_rules stands goes_on honest bytes past faults) settings first before ahead last after left result → IsTrue honest → StandsForSome stands first.core → OpensToCore ledger goes_on (bytes first.disk) first.core → IsAtRest (bytes first.disk) (past first.disk) →
+  pub serve_keeps : (held : S → Kept) (reported : Bool) (settings : Serving) (first last : NodeSeen D S) (before after : List Exchange) (ahead left : List Arrival) (result : Result (ℕ × ℕ) ServeEnd) →
+      Serves reported (serving_rules stands goes_on honest bytes past faults) settings first before ahead last after left result → IsTrue honest → StandsForSome stands first.core → OpensToCore held goes_on (bytes first.disk) first.core → IsAtRest (bytes first.disk) (past first.disk) →
       (d : Durable) → durable goes_on (bytes first.disk) ≡ Ok d → Leaves (KeepsLeaves goes_on d) (past first.disk) (past last.disk)
-  serve_keeps ledger reported settings first last before after ahead left result s true_disk some file rest d opens =
+  serve_keeps held reported settings first last before after ahead left result s true_disk some file rest d opens =
       let life = serve_lives stands goes_on honest bytes past faults settings reported _ _ _ _ result s.went in
       let n = some.node in
       let same : d.reserved ≡ n.reserved = held_reserved d file.0 (sym opens ∙ file.1) ∙ file.2.reserved ∙ ap (λ (m : Node Entry). m.reserved) some.standing.same in

@@ -11,7 +11,7 @@ use Rattle.gl_replication.specs.Stands.{KeepsAll, Refuses, Reports, Steps, held_
 use Rattle.gl_answers.specs.Limits.{KeepsLimits}
 use Rattle.gl_outside.specs.Disk.{IsImage, Leaves, Step}
 use Rattle.gl_outside.specs.Fault.{Rose}
-use Rattle.gl_journal.specs.Durable.{Durable, GoesOn, OpensToOneOf, durable}
+use Rattle.gl_journal.specs.Durable.{Durable, LogRules, OpensToOneOf, durable}
 use Rattle.gl_node.specs.Answers.{OnRefusal, stopped_count}
 use Rattle.gl_node.specs.Kept.{kept_after}
 use Rattle.gl_node.specs.Persistence.{StandsForSome}
@@ -40,7 +40,7 @@ module _ {D S : Type 0} (stands : S → ServiceBook → Holding Entry → Type 0
       accepted_from done.outcome (rule_of event some.rules some.me some.node).outcome step.outcome (rule_settles some.rules some.node keeps event some.me asked)
 
 -- what is told of an event is what it comes to
-module _ {D S : Type 0} (stands : S → ServiceBook → Holding Entry → Type 0) (goes_on : GoesOn) (honest : Bool) (bytes : D → List ℕ) (past : D → List Step) (faults : D → ℕ)
+module _ {D S : Type 0} (stands : S → ServiceBook → Holding Entry → Type 0) (goes_on : LogRules) (honest : Bool) (bytes : D → List ℕ) (past : D → List Step) (faults : D → ℕ)
     (event : NodeEvent S) (old new : NodeSeen D S) where
   pub happens_from : (result : Result (NodeDone S) (NodeFaults S)) →
       IfOk result (λ done. Steps stands (rule_of event) old.core done new.core) →

@@ -6,7 +6,7 @@ use Rattle.gl_rules.specs.Node.{Node}
 use Rattle.gl_ledger.specs.LedgerBook.{ServiceBook}
 use Rattle.gl_outside.specs.Disk.{Leaves, Step}
 use Rattle.gl_outside.proofs.Moments.{Images, now, so_too, started, stayed, then_too}
-use Rattle.gl_journal.specs.Durable.{Durable, GoesOn, OpensToOneOf, durable, journal_header}
+use Rattle.gl_journal.specs.Durable.{Durable, LogRules, OpensToOneOf, durable, journal_header}
 use Rattle.gl_journal.specs.Parts.{HasGate}
 use Rattle.gl_replication.specs.Events.{rule_of}
 use Rattle.gl_replication.specs.Holding.{Holding}
@@ -18,7 +18,7 @@ use Rattle.gl_serve.specs.Life.{IsKeptThrough, Lived, Lives, MayKeep, kept_throu
 use Rattle.gl_serve.specs.Types.{NodeDone, NodeEvent, NodeFaults, NodeSeen}
 use Rattle.gl_serve.proofs.Living.{still}
 
-module _ {D S : Type 0} (stands : S → ServiceBook → Holding Entry → Type 0) (goes_on : GoesOn) (honest : Bool) (bytes : D → List ℕ) (past : D → List Step) (faults : D → ℕ)
+module _ {D S : Type 0} (stands : S → ServiceBook → Holding Entry → Type 0) (goes_on : LogRules) (honest : Bool) (bytes : D → List ℕ) (past : D → List Step) (faults : D → ℕ)
     (is_honest : IsTrue honest) (b : ServiceBook) (x : NodeId) where
   abbrev Live : NodeSeen D S → List (Lived S) → NodeSeen D S → Type 0
   Live first life last = Lives stands goes_on honest bytes past faults first life last

@@ -7,7 +7,7 @@ use Rattle.gl_rules.specs.Node.{Node}
 use Rattle.gl_ledger.specs.LedgerBook.{ServiceBook}
 use Rattle.gl_outside.specs.Disk.{Step}
 use Rattle.gl_outside.specs.Link.{Arrival}
-use Rattle.gl_journal.specs.Durable.{GoesOn}
+use Rattle.gl_journal.specs.Durable.{LogRules}
 use Rattle.gl_replication.specs.Events.{rule_of}
 use Rattle.gl_replication.specs.declared.event.Event.TheVariants as events
 use Rattle.gl_replication.specs.Holding.{Holding}
@@ -34,7 +34,7 @@ use Rattle.gl_serve.specs.declared.payload.Ask.TheVariants as asks
 use Rattle.gl_serve.specs.declared.payload.Payload.{Payload}
 use Rattle.gl_serve.specs.declared.payload.Payload.TheVariants as payloads
 
-module _ {D S : Type 0} (stands : S → ServiceBook → Holding Entry → Type 0) (goes_on : GoesOn) (honest : Bool) (bytes : D → List ℕ) (past : D → List Step) (faults : D → ℕ) where
+module _ {D S : Type 0} (stands : S → ServiceBook → Holding Entry → Type 0) (goes_on : LogRules) (honest : Bool) (bytes : D → List ℕ) (past : D → List Step) (faults : D → ℕ) where
   abbrev Live : NodeSeen D S → List (Lived S) → NodeSeen D S → Type 0
   Live first life last = Lives stands goes_on honest bytes past faults first life last
 

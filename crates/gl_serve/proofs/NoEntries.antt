@@ -103,7 +103,7 @@ none_committed statuses.Invalid = refl
 
 module _ (commit : ℕ) (id : TxId) where
   abbrev ledger : Ledger
-  ledger = receipts_of [] commit
+  ledger = receipts_of 0 [] commit
 
   status_there : status_in ledger id ≡ status_of id None None
   status_there =

@@ -7,7 +7,7 @@ use Rattle.gl_rules.specs.Node.{Node}
 use Rattle.gl_ledger.specs.LedgerBook.{ServiceBook}
 use Rattle.gl_outside.specs.Disk.{IsImage, Step}
 use Rattle.gl_outside.proofs.Moments.{Images, now}
-use Rattle.gl_journal.specs.Durable.{Durable, GoesOn, OpensToOneOf, durable}
+use Rattle.gl_journal.specs.Durable.{Durable, LogRules, OpensToOneOf, durable}
 use Rattle.gl_journal.specs.Kept.{IsAtRest}
 use Rattle.gl_replication.specs.Events.{rule_of}
 use Rattle.gl_replication.specs.Holding.{Holding}
@@ -24,7 +24,7 @@ use Rattle.gl_serve.proofs.Living.{still}
 none_above : (used : ℕ) → Above used []
 none_above used = (λ i j d below last. absurd (omega (arith, last)), All-nil (λ (leaf : ℕ). used ≤ leaf))
 
-module _ {D S : Type 0} (stands : S → ServiceBook → Holding Entry → Type 0) (goes_on : GoesOn) (honest : Bool) (bytes : D → List ℕ) (past : D → List Step) (faults : D → ℕ)
+module _ {D S : Type 0} (stands : S → ServiceBook → Holding Entry → Type 0) (goes_on : LogRules) (honest : Bool) (bytes : D → List ℕ) (past : D → List Step) (faults : D → ℕ)
     (is_honest : IsTrue honest) (b : ServiceBook) (x : NodeId) where
   abbrev Live : NodeSeen D S → List (Lived S) → NodeSeen D S → Type 0
   Live first life last = Lives stands goes_on honest bytes past faults first life last

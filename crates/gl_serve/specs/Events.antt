@@ -4,7 +4,7 @@ use Rattle.gl_entry.specs.declared.entry.Entry.{Entry}
 use Rattle.gl_ledger.specs.LedgerBook.{ServiceBook}
 use Rattle.gl_outside.specs.Disk.{IsImage, Leaves, Step}
 use Rattle.gl_outside.specs.Fault.{Rose}
-use Rattle.gl_journal.specs.Durable.{Durable, GoesOn, OpensToOneOf, durable}
+use Rattle.gl_journal.specs.Durable.{Durable, LogRules, OpensToOneOf, durable}
 use Rattle.gl_replication.specs.Events.{rule_of}
 use Rattle.gl_replication.specs.Holding.{Holding}
 use Rattle.gl_replication.specs.Stands.{KeepsAll, Refuses, Reports, Steps}
@@ -14,7 +14,7 @@ use Rattle.gl_serve.specs.Types.{NodeDone, NodeEvent, NodeFaults, NodeRefusal, N
 
 -- Over a store that stands for ledgers, and a disk that tells its bytes, its history and its
 -- faults.
-module _ {D S : Type 0} (stands : S → ServiceBook → Holding Entry → Type 0) (goes_on : GoesOn)
+module _ {D S : Type 0} (stands : S → ServiceBook → Holding Entry → Type 0) (goes_on : LogRules)
     (honest : Bool) (bytes : D → List ℕ) (past : D → List Step) (faults : D → ℕ)
     (event : NodeEvent S) (old : NodeSeen D S) where
   -- At every moment of the event a stop leaves a file that keeps the node as it was, or as the rule

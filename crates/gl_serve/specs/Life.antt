@@ -7,7 +7,7 @@ use Rattle.gl_rules.specs.Node.{Node}
 use Rattle.gl_ledger.specs.LedgerBook.{ServiceBook}
 use Rattle.gl_outside.specs.Disk.{IsImage, Leaves, Step}
 use Rattle.gl_outside.specs.Link.{Arrival, Exchange}
-use Rattle.gl_journal.specs.Durable.{Durable, GoesOn, durable, journal_header}
+use Rattle.gl_journal.specs.Durable.{Durable, LogRules, durable, journal_header}
 use Rattle.gl_journal.specs.Kept.{IsAtRest}
 use Rattle.gl_journal.specs.Parts.{HasGate}
 use Rattle.gl_replication.specs.Events.{rule_of}
@@ -90,7 +90,7 @@ module _ {S : Type 0} where
 
 -- Over a store that stands for ledgers, and a disk that tells its bytes, its history and its
 -- faults.
-module _ {D S : Type 0} (stands : S → ServiceBook → Holding Entry → Type 0) (goes_on : GoesOn)
+module _ {D S : Type 0} (stands : S → ServiceBook → Holding Entry → Type 0) (goes_on : LogRules)
     (honest : Bool) (bytes : D → List ℕ) (past : D → List Step) (faults : D → ℕ) where
   -- From the one node to the other these events happened, one after the other.
   abbrev pub Lives : NodeSeen D S → List (Lived S) → NodeSeen D S → Type 0

@@ -9,7 +9,7 @@ use Rattle.gl_ledger.specs.LedgerBook.{ServiceBook}
 use Rattle.gl_messages.specs.declared.answer.AnswerBody.{AnswerBody}
 use Rattle.gl_messages.specs.declared.answer.AnswerBody.TheVariants as content
 use Rattle.gl_outside.specs.Disk.{Step}
-use Rattle.gl_journal.specs.Durable.{GoesOn}
+use Rattle.gl_journal.specs.Durable.{LogRules}
 use Rattle.gl_receipt.specs.Made.{receipt_of}
 use Rattle.gl_replication.specs.declared.event.Event.TheVariants as events
 use Rattle.gl_replication.specs.Holding.{Holding}
@@ -31,7 +31,7 @@ use Rattle.gl_serve.specs.declared.payload.Ask.TheVariants as asks
 use Rattle.gl_serve.specs.declared.payload.Payload.{Payload}
 use Rattle.gl_serve.specs.declared.payload.Payload.TheVariants as payloads
 
-module _ {D S : Type 0} (stands : S → ServiceBook → Holding Entry → Type 0) (goes_on : GoesOn)
+module _ {D S : Type 0} (stands : S → ServiceBook → Holding Entry → Type 0) (goes_on : LogRules)
     (honest : Bool) (bytes : D → List ℕ) (past : D → List Step) (faults : D → ℕ) where
   -- An event happens, and this is told of what it came to.
   abbrev pub Comes : NodeEvent S → NodeSeen D S → NodeSeen D S →
@@ -73,7 +73,8 @@ module _ {D S : Type 0} (stands : S → ServiceBook → Holding Entry → Type 0
       ≡ content.StatusIs (reported_status b n id)) outcome new
   Asks old number (asks.ReceiptOf id) outcome new =
       Questions old number
-      (λ b n. Says (receipt_answer_body (receipt_of (receipts_of n.log n.commit) id))) outcome new
+      (λ b n. Says
+      (receipt_answer_body (receipt_of (receipts_of n.base n.log n.commit) id))) outcome new
   Asks old number (asks.SnapshotPart offset) outcome new =
       Questions old number (λ b n. Says (reason_answer_body (numbers 81 (n.commit ∷ []))))
       outcome new

@@ -113,7 +113,8 @@ fn on_request<D: Disk, B: KeptBook + ClientBook>(
 /// The receipt of a transaction as it is reported, or that memory ran out.
 fn receipt_answer_body<B: KeptBook + ClientBook>(core: &Core<B>, id: TxId) -> AnswerBody
     ensures due { Reports B.stands core.now (λ b x n.
-        Says (receipt_answer_body (receipt_of (receipts_of n.log n.commit) id)) result) }
+        Says (receipt_answer_body
+        (receipt_of (receipts_of n.base n.log n.commit) id)) result) }
     ensures fits { IsTrue (answer_body_fits result) }
 {
     match core.book.receipt(core.commit, id) {
@@ -186,7 +187,8 @@ fn receipt<D: Disk, B: KeptBook + ClientBook>(
 ) -> Outcome
     ensures reported { Report B.stands B.goes_on D.honest D.bytes D.past D.faults
         replica.now.stopped replica.now number
-        (λ b n. Says (receipt_answer_body (receipt_of (receipts_of n.log n.commit) id))) result }
+        (λ b n. Says (receipt_answer_body
+        (receipt_of (receipts_of n.base n.log n.commit) id))) result }
     ensures fits { Fits result }
     ensures answered { IsAnswered number result }
 {

@@ -4,12 +4,11 @@ ghost use Rattle.std.specs.Prelude.{◌≡◌, ◌++◌, length};
 ghost use Rattle.std.specs.List.{flat_map};
 ghost use Rattle.sha2.specs.Sha256.{sha256};
 ghost use Rattle.gl_base.specs.LittleEndian.{little_endian};
-ghost use Rattle.gl_base.specs.Field.{with_u32_length};
-ghost use Rattle.gl_entry.specs.Leaf.{Feeds};
+ghost use Rattle.gl_snapshot_body.specs.Digest.{Feeds};
 ghost use Rattle.gl_snapshot_body.specs.Body.{start_bytes, counted_bytes, row_bytes, body_bytes};
 
 use gl_entry::Digest;
-use gl_snapshot_body::{Body, ViewStart};
+use gl_snapshot_body::{Body, ViewStart, feed_row};
 use gl_vmaps::Row;
 use sha2::{Digest as _, Sha256};
 
@@ -20,14 +19,6 @@ fn feed_len(hasher: &mut Sha256, len: usize)
 {
     let [a, b, c, d, ..] = (len as u64).to_le_bytes();
     hasher.update(&[a, b, c, d]);
-}
-
-/// Feeds bytes after their length.
-fn feed_sized(hasher: &mut Sha256, bytes: &[u8])
-    ensures { Feeds hasher.old hasher.new (with_u32_length bytes.now) }
-{
-    feed_len(hasher, bytes.len());
-    hasher.update(bytes);
 }
 
 #[tactic(auto, unfolding(gl_base::specs::LittleEndian::little_endian))]
@@ -83,23 +74,16 @@ fn feed_peaks(hasher: &mut Sha256, peaks: &[Digest])
     feed_digests(hasher, peaks);
 }
 
-#[tactic(auto, unfolding(gl_base::specs::LittleEndian::little_endian))]
-fn feed_row(hasher: &mut Sha256, row: &Row)
-    ensures { Feeds hasher.old hasher.new (row_bytes row.now) }
-{
-    let (map, key) = (row.map.as_slice(), row.key.as_slice());
-    hasher.update(&[map.len() as u8]);
-    hasher.update(map);
-    hasher.update(&(key.len() as u16).to_le_bytes());
-    hasher.update(key);
-    feed_sized(hasher, row.value.as_slice());
-}
-
 fn feed_all(hasher: &mut Sha256, rows: &[Row])
     ensures { Feeds hasher.old hasher.new (flat_map row_bytes rows.now) }
 {
     for row in rows {
-        feed_row(hasher, row);
+        feed_row(
+            hasher,
+            row.map.as_slice(),
+            row.key.as_slice(),
+            row.value.as_slice(),
+        );
     }
 }
 

@@ -14,6 +14,18 @@ use Rattle.gl_vmaps.specs.Writes.{is_less}
 use Rattle.gl_vmaps.specs.declared.row.Row.{Row}
 use Rattle.gl_snapshot_body.specs.declared.body.ViewStart.{ViewStart}
 use Rattle.gl_snapshot_body.specs.declared.body.Body.{Body}
+use Rattle.gl_snapshot_body.specs.declared.body.BodyHead.{BodyHead}
+
+-- A body of these rows, with the other fields of a head.
+abbrev pub body_with : BodyHead → List Row → Body
+body_with head rows = record {
+  base = head.base;
+  view = head.view;
+  commit = head.commit;
+  views = head.views.now;
+  peaks = head.peaks.now;
+  rows = rows;
+}
 
 -- What is said of no entries.
 abbrev pub no_body : Body

@@ -1,2 +1,4 @@
 pub mod Body
 pub mod Parsing
+pub mod Digest
+pub mod Sinks

@@ -1,7 +1,7 @@
 //! What a snapshot says of the entries up to its base.
 
 ghost use Rattle.std.specs.Prelude.{◌≡◌};
-ghost use Rattle.gl_snapshot_body.specs.Body.{no_body};
+ghost use Rattle.gl_snapshot_body.specs.Body.{no_body, body_with};
 
 use gl_base::Sequence;
 use gl_vmaps::Rows;
@@ -37,6 +37,16 @@ pub struct Body {
     pub rows: Rows,
 }
 
+/// The fields of a body but for its rows.
+#[derive(Clone, Copy, Debug)]
+pub struct BodyHead<'a> {
+    pub base: u64,
+    pub view: u32,
+    pub commit: u64,
+    pub views: &'a [ViewStart],
+    pub peaks: &'a [Digest],
+}
+
 impl Body {
     /// What is said of no entries.
     pub fn new(alloc: Global) -> Self
@@ -49,6 +59,19 @@ impl Body {
             views: Sequence::from(Vec::new(alloc)),
             peaks: Sequence::from(Vec::new(alloc)),
             rows: Rows::new(alloc),
+        }
+    }
+
+    /// The fields but for the rows.
+    pub fn head(&self) -> BodyHead<'_>
+        ensures { body_with result self.now.rows ≡ self.now }
+    {
+        BodyHead {
+            base: self.base,
+            view: self.view,
+            commit: self.commit,
+            views: self.views.as_slice(),
+            peaks: self.peaks.as_slice(),
         }
     }
 }

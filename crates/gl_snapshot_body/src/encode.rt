@@ -1,11 +1,12 @@
 //! The bytes of a body, written after what a list of bytes holds.
 
-ghost use Rattle.std.specs.Prelude.{◌≡◌, ◌++◌, ◌^◌, ◌<◌, OnOk, OnErr, IsTrue, length, take};
+ghost use Rattle.std.specs.Prelude.{◌≡◌, ◌++◌, ◌^◌, ◌<◌, List, OnOk, OnErr, IsTrue, length, take};
 ghost use Rattle.std.specs.List.{flat_map};
 ghost use Rattle.gl_base.specs.LittleEndian.{little_endian};
-ghost use Rattle.gl_snapshot_body.specs.Body.{start_bytes, counted_bytes, row_bytes, head_bytes, body_bytes, is_counted};
+ghost use Rattle.gl_snapshot_body.specs.Body.{start_bytes, counted_bytes, row_bytes, head_bytes, body_bytes, body_with, is_counted};
+ghost use Rattle.gl_vmaps.specs.declared.row.Row.{Row as RowValue};
 
-use crate::body::{Body, Digest, ViewStart};
+use crate::body::{Body, BodyHead, Digest, ViewStart};
 use gl_base::{put_bytes, put_key, put_map_name, put_u32, put_u64, put_value};
 use gl_vmaps::Row;
 use std::alloc::AllocError;
@@ -65,15 +66,15 @@ fn put_rows(out: &mut Vec<u8>, rows: &[Row]) -> Result<(), AllocError>
 }
 
 #[tactic(auto, using(crate::proofs::Begun::begun))]
-fn put_numbers(out: &mut Vec<u8>, body: &Body) -> Result<(), AllocError>
+fn put_numbers(out: &mut Vec<u8>, head: &BodyHead<'_>) -> Result<(), AllocError>
     ensures put { OnOk result (out.new.items ≡ out.old.items
-        ++ (little_endian 8 body.now.base ++ little_endian 4 body.now.view
-        ++ little_endian 8 body.now.commit)) }
+        ++ (little_endian 8 head.now.base ++ little_endian 4 head.now.view
+        ++ little_endian 8 head.now.commit)) }
     ensures begun { OnErr result (take (length out.old.items) out.new.items ≡ out.old.items) }
 {
-    put_u64(out, body.base)?;
-    put_u32(out, body.view)?;
-    put_u64(out, body.commit)
+    put_u64(out, head.base)?;
+    put_u32(out, head.view)?;
+    put_u64(out, head.commit)
 }
 
 /// Writes the starts of the views after their count.
@@ -100,17 +101,19 @@ fn put_peaks(out: &mut Vec<u8>, peaks: &[Digest]) -> Result<(), AllocError>
     put_digests(out, peaks)
 }
 
-/// Writes what stands before the rows.
+/// Writes what stands before so many rows.
 #[tactic(auto, using(crate::proofs::Begun::begun_twice))]
-fn put_head(out: &mut Vec<u8>, body: &Body) -> Result<(), AllocError>
-    requires { IsTrue (is_counted body.now) }
-    ensures put { OnOk result (out.new.items ≡ out.old.items ++ head_bytes body.now) }
+pub(crate) fn put_head(out: &mut Vec<u8>, head: &BodyHead<'_>, count: u32) -> Result<(), AllocError>
+    requires views { length head.now.views.now < 2 ^ 32 }
+    requires peaks { length head.now.peaks.now < 2 ^ 32 }
+    ensures put { OnOk result ((rows : List RowValue) → length rows ≡ count →
+        out.new.items ≡ out.old.items ++ head_bytes (body_with head.now rows)) }
     ensures begun { OnErr result (take (length out.old.items) out.new.items ≡ out.old.items) }
 {
-    put_numbers(out, body)?;
-    put_views(out, body.views.as_slice())?;
-    put_peaks(out, body.peaks.as_slice())?;
-    put_u32(out, body.rows.as_slice().len() as u32)
+    put_numbers(out, head)?;
+    put_views(out, head.views)?;
+    put_peaks(out, head.peaks)?;
+    put_u32(out, count)
 }
 
 #[tactic(auto, using(crate::proofs::Begun::begun))]
@@ -119,7 +122,7 @@ fn put_all(out: &mut Vec<u8>, body: &Body) -> Result<(), AllocError>
     ensures put { OnOk result (out.new.items ≡ out.old.items ++ body_bytes body.now) }
     ensures begun { OnErr result (take (length out.old.items) out.new.items ≡ out.old.items) }
 {
-    put_head(out, body)?;
+    put_head(out, &body.head(), body.rows.as_slice().len() as u32)?;
     put_rows(out, body.rows.as_slice())
 }
 

@@ -5,13 +5,15 @@
 
 mod body;
 mod decode;
+mod digest;
 mod encode;
 mod fault;
 mod laws;
 mod lengths;
 
-pub use body::{Body, Digest, SNAPSHOT_LIMIT, ViewStart};
+pub use body::{Body, BodyHead, Digest, SNAPSHOT_LIMIT, ViewStart};
 pub use decode::read_body;
+pub use digest::{digest_of_body, feed_row};
 pub use encode::put_body;
 pub use fault::ShapeFault;
 pub use laws::law_of_bodies;

@@ -1,4 +1,7 @@
 pub mod Recorded
+pub mod Tails
+pub mod Keys
+pub mod SignaturesAbove
 pub mod Applications
 pub mod Governing
 pub mod KeptEntries

@@ -14,7 +14,9 @@ use Rattle.gl_ledger.specs.Recordings.{last_entry}
 use Rattle.gl_ledger.specs.Sound.{IsSound}
 use Rattle.gl_ledger.specs.Audit.{LedgerFault, audited, fault_from, signer_in, signer_of, opened_where, opened_unless, opened}
 use Rattle.gl_ledger.specs.Past.{is_unopened}
-use Rattle.gl_store.specs.Kept.{Beside, IsKept}
+use Rattle.gl_store.specs.Kept.{IsKept}
+use Rattle.gl_store.specs.Tail.{Tail}
+use Rattle.gl_audit.proofs.KeptLedgers.{state_sound}
 use Rattle.gl_audit.proofs.LastEntries.{last_at}
 
 -- entries of which one breaks a rule
@@ -65,10 +67,9 @@ opening_signed_by ledger valid sound begun =
     signer_there (content.Evidence d) is = absurd (cc)
 
 -- it is committed, all of it
-pub kept_opened : (ledger : List Entry) (b : Beside) → IsKept ledger b → is_unopened (last_entry (take (length ledger - 1) ledger)) ≡ true → IsKept ledger (record b { commit = length ledger })
-kept_opened ledger b k begun = record {
+pub kept_opened : (t : Tail) (commit : ℕ) → IsKept t commit → is_unopened (last_entry (take (length t.entries - 1) t.entries)) ≡ true → IsKept t (length t.entries)
+kept_opened t commit k begun = record {
   stands = k.stands;
-  whole = k.whole;
   within = omega arith;
-  committed = λ some. let last = last_signs ledger k.stands.sound begun in (last.0, last_at ledger ∙ last.1, last.2);
+  committed = λ some. let last = last_signs t.entries (state_sound t.entries t.state k.stands.stands) begun in (last.0, last_at t.entries ∙ last.1, last.2);
 }

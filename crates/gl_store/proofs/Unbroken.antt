@@ -23,36 +23,26 @@ use Rattle.gl_requests.specs.declared.request.GovernanceRequest.TheVariants as r
 use Rattle.gl_ledger.proofs.OpeningLaws.{founding_unbroken}
 use Rattle.gl_ledger.proofs.MadeEntries.{governed_unbroken}
 use Rattle.gl_ledger.proofs.Valid.{may_make_after, request_unbroken}
-use Rattle.gl_audit.specs.Committed.{Held}
-use Rattle.gl_store.specs.Kept.{Beside, IsKept}
 use Rattle.gl_gov_rules.specs.declared.refusal.GovernanceRefusal.{GovernanceRefusal}
 use Rattle.gl_gov_rules.proofs.FoundingAccepted.{refusal_of_genesis}
 use Rattle.gl_ledger.proofs.GenesisEntries.{genesis_is_entry}
 
 -- what a request makes
-pub execution_unbroken : (ledger : List Entry) (b : Beside) (view : ℕ) (q : List Operation) (e : Entry) (a : List Answer) → IsKept ledger b → 0 < length ledger → is_unopened (last_entry ledger) ≡ false →
+pub execution_unbroken : (ledger : List Entry) (view : ℕ) (q : List Operation) (e : Entry) (a : List Answer) → 0 < length ledger → is_unopened (last_entry ledger) ≡ false →
     HasViewsUpTo view ledger → is_request q ≡ true → execute_result ledger view q ≡ Ok (e, a) → is_entry e ≡ true → broken service_layers ledger e ≡ None
-execution_unbroken ledger b view q e a k some opened up fits h one = request_unbroken service_layers ledger view (may_make_after service_layers ledger view some opened up) q e a fits h one
+execution_unbroken ledger view q e a some opened up fits h one = request_unbroken service_layers ledger view (may_make_after service_layers ledger view some opened up) q e a fits h one
 
 -- the rules ask for no keys, so any will do
 any_keys : NodeKeys
 any_keys = record { key_of = λ x. record { types = H5W4; identifier = []; seed = [] } }
 
 -- what a request of governance makes that founds nothing and is accepted
-pub governance_unbroken : (ledger : List Entry) (b : Beside) (view : ℕ) (g : GovernanceRequest) (e : Entry) → IsKept ledger b → 0 < length ledger → is_unopened (last_entry ledger) ≡ false →
+pub governance_unbroken : (ledger : List Entry) (view : ℕ) (g : GovernanceRequest) (e : Entry) → 0 < length ledger → is_unopened (last_entry ledger) ≡ false →
     HasViewsUpTo view ledger → ranges.is_request g ≡ true → governance.is_founding g ≡ false → governance.is_recovery g ≡ false → refusal (history (requests_of ledger)) (length ledger + 1) g ≡ None → length ledger < last_seqno →
     e ≡ governance_entry g ledger view → is_entry e ≡ true → broken service_layers ledger e ≡ None
-governance_unbroken ledger b view g e k some opened up fits founding recovery accepted left made one =
+governance_unbroken ledger view g e some opened up fits founding recovery accepted left made one =
     subst (λ (x : Entry). broken service_layers ledger x ≡ None) (sym made)
     (governed_unbroken service_layers any_keys ledger view (may_make_after service_layers ledger view some opened up) g fits accepted founding recovery left (subst (λ (x : Entry). is_entry x ≡ true) made one))
-
-pub governance_kept : (ledger : List Entry) (b : Beside) (h : Held) (view : ℕ) (g : GovernanceRequest) (e : Entry) → IsKept ledger b → record { ledger = ledger; commit = b.commit } ≡ h → 0 < length h.ledger →
-    is_unopened (last_entry h.ledger) ≡ false → HasViewsUpTo view h.ledger → ranges.is_request g ≡ true → governance.is_founding g ≡ false → governance.is_recovery g ≡ false → refusal (history (requests_of h.ledger)) (length h.ledger + 1) g ≡ None →
-    length h.ledger < last_seqno → e ≡ governance_entry g h.ledger view → is_entry e ≡ true → broken service_layers h.ledger e ≡ None
-governance_kept ledger b h view g e k seen some opened up fits founding recovery =
-    subst (λ (h : Held). 0 < length h.ledger → is_unopened (last_entry h.ledger) ≡ false → HasViewsUpTo view h.ledger → refusal (history (requests_of h.ledger)) (length h.ledger + 1) g ≡ None →
-    length h.ledger < last_seqno → e ≡ governance_entry g h.ledger view → is_entry e ≡ true → broken service_layers h.ledger e ≡ None) seen
-    (λ some opened up accepted left made one. governance_unbroken ledger b view g e k some opened up fits founding recovery accepted left made one) some opened up
 
 -- the entry of a genesis, where there is no other
 pub genesis_made : (g : founding.Genesis) (ledger : List Entry) (e : Entry) → ledger ≡ [] → e ≡ governance_entry (requests.Genesis g) ledger 2 → e ≡ genesis_entry g

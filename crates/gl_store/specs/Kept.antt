@@ -1,19 +1,11 @@
--- What a store keeps beside its ledger.
-use Rattle.std.specs.Prelude.{ℕ, ◌≤◌, List, length}
-use Rattle.gl_entry.specs.declared.entry.Entry.{Entry}
+-- What a store keeps: a whole ledger, and its commit.
+use Rattle.std.specs.Prelude.{ℕ, ◌≤◌, length}
+use Rattle.gl_snapshot_body.specs.Body.{no_body}
 use Rattle.gl_ledger.specs.Signed.{IsSignedUpTo}
-use Rattle.gl_audit.specs.Kept.{IsStateOf, IsWhole}
-use Rattle.gl_audit.specs.declared.ledger_state.LedgerState.{LedgerState}
+use Rattle.gl_store.specs.Tail.{StandsBehind, Tail}
 
--- What stands beside the ledger.
-pub record Beside : Type 0 where
-  pub commit : ℕ
-  pub state : LedgerState
-
--- Commit is the seqno of a signature of the ledger or 0, and what is kept beside the ledger is its
--- state, whole.
-pub record IsKept (ledger : List Entry) (b : Beside) : Type 0 where
-  pub stands : IsStateOf ledger b.state
-  pub whole : IsWhole b.state
-  pub within : b.commit ≤ length ledger
-  pub committed : IsSignedUpTo ledger b.commit
+-- The entries are a whole ledger, and commit is the seqno of a signature of it or 0.
+pub record IsKept (t : Tail) (commit : ℕ) : Type 0 where
+  pub stands : StandsBehind no_body t
+  pub within : commit ≤ length t.entries
+  pub committed : IsSignedUpTo t.entries commit

@@ -1,2 +1,3 @@
+pub mod Tail
 pub mod Kept
 pub mod Calls

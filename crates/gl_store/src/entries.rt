@@ -1,6 +1,6 @@
 //! The entries that a store makes.
 
-ghost use Rattle.std.specs.Prelude.{◌≡◌, ◌+◌, ◌≤◌, ◌<◌, ◌^◌, List, true, length, None, Err, IfOk, IfSome, IfNone, OnOk};
+ghost use Rattle.std.specs.Prelude.{◌≡◌, ◌+◌, ◌≤◌, ◌<◌, ◌^◌, ℕ, List, true, length, None, Err, IfOk, IfSome, IfNone, OnOk};
 ghost use Rattle.sha2.specs.Sha256.{sha256};
 ghost use Rattle.gl_base.specs.TxId.{last_seqno};
 ghost use Rattle.gl_tx.specs.Request.{is_request, request_bytes, reply_bytes};
@@ -9,9 +9,10 @@ ghost use Rattle.gl_entry.specs.Entry.{is_entry, body_bytes, body_limit, content
 ghost use Rattle.gl_entry.specs.declared.entry.Entry as made;
 ghost use Rattle.gl_requests.specs.Ranges as ranges;
 ghost use Rattle.gl_requests.specs.Encoding as requests_encoded;
-ghost use Rattle.gl_ledger.specs.Ledger.{within_limits};
+ghost use Rattle.gl_ledger.specs.Ledger.{within_limits_after};
 ghost use Rattle.gl_ledger.specs.declared.response.Rejection.TheVariants.{ByStore};
-ghost use Rattle.gl_ledger.specs.Makers.{governed_within};
+ghost use Rattle.gl_ledger.specs.Makers.{governed_within_after};
+ghost use Rattle.gl_ledger.specs.Past.{Past};
 
 use gl_base::{Bytes, LAST_SEQNO, MEBIBYTE};
 use gl_entry::{Content, Digest, Entry};
@@ -98,10 +99,10 @@ pub(crate) fn application_entry(
 pub(crate) fn governance_limit_passed(body_len: u64, seqno: u64) -> Option<Refusal>
     ensures body { IfNone result (body_len ≤ body_limit) }
     ensures seqno { IfNone result (seqno ≤ last_seqno) }
-    ensures expected { IfSome result (λ refusal. (ledger : List made.Entry)
+    ensures expected { IfSome result (λ refusal. (p : Past)
         (g : GovernanceRequest) (e : made.Entry) →
-        body_len ≡ length (body_bytes e) → seqno ≡ length ledger + 1 →
-        governed_within ledger g e ≡ Err (ByStore refusal)) }
+        body_len ≡ length (body_bytes e) → seqno ≡ p.len + 1 →
+        governed_within_after p g e ≡ Err (ByStore refusal)) }
 {
     if body_len > MEBIBYTE {
         Some(Refusal::TooLarge { size: body_len })
@@ -118,10 +119,9 @@ pub(crate) fn limit_passed(body_len: u64, reply: &[u8], seqno: u64) -> Option<Re
     ensures reply { IfNone result (length reply.now ≤ body_limit) }
     ensures seqno { IfNone result (seqno ≤ last_seqno) }
     ensures expected { IfSome result (λ refusal.
-        (ledger : List made.Entry) (e : made.Entry) (answers : List Answer) →
-        body_len ≡ length (body_bytes e) → reply.now ≡ reply_bytes answers → seqno
-        ≡ length ledger + 1 →
-        within_limits ledger e answers ≡ Err refusal) }
+        (len : ℕ) (e : made.Entry) (answers : List Answer) →
+        body_len ≡ length (body_bytes e) → reply.now ≡ reply_bytes answers → seqno ≡ len + 1 →
+        within_limits_after len e answers ≡ Err refusal) }
 {
     let reply_len = reply.len() as u64;
     if body_len > MEBIBYTE {

@@ -1,25 +1,26 @@
 //! The store of one node: a valid ledger, and up to which seqno it is committed.
 
-ghost use Rattle.std.specs.Prelude.{◌≡◌, ◌+◌, ◌-◌, ◌≤◌, ◌<◌, [], ◌∷◌, ◌++◌, true, length, take, None, Some, IfOk, IfErr, IfSome, OnErr, OnOk};
+ghost use Rattle.std.specs.Prelude.{◌≡◌, ◌+◌, ◌-◌, ◌≤◌, ◌<◌, [], ◌∷◌, ◌++◌, true, length, take, None, Ok, Some, IfOk, IfErr, IfSome, OnErr, OnOk};
 ghost use Rattle.std.specs.List.{AllByRecursion};
 ghost use Rattle.std.specs.Option.{option_copied};
+ghost use Rattle.gl_base.specs.Answers.{Fails};
 ghost use Rattle.gl_rules.specs.Log.{entry_at};
 ghost use Rattle.gl_vmaps.specs.Standing.{StandsFor};
 ghost use Rattle.gl_entry.specs.Entry.{is_entry};
 ghost use Rattle.gl_requests.specs.Ranges.{is_genesis};
 ghost use Rattle.gl_ledger.specs.Ledger.{genesis_entry};
 
+use crate::ledger_tail::LedgerTail;
 use crate::not_opening::NotOpening;
-use gl_audit::{GovState, LedgerEnd, LedgerState, count_up_to, entry_at, is_unopened, seqno_at};
+use gl_audit::{GovState, is_unopened};
 use gl_base::{OrNoMemory, Status, TxId, status};
 use gl_entry::{Digest, Entry};
-use gl_ledger::Broken;
+use gl_ledger::{Broken, Rejection};
 use gl_requests::Genesis;
 use gl_vmaps::Tables;
 use std::alloc::{AllocError, Global};
 use std::marker::Model;
 
-mod evidence;
 mod governance;
 mod receipts;
 mod recovery;
@@ -32,10 +33,8 @@ mod requests;
 /// of the tree over all earlier entries. Commit is the seqno of a signature, or 0, and never falls.
 #[derive(Drop)]
 pub struct Store {
-    entries: Vec<Entry>,
-    state: LedgerState,
+    tail: LedgerTail,
     commit: u64,
-    alloc: Global,
 }
 
 impl Model for Store {
@@ -44,12 +43,9 @@ impl Model for Store {
 
     ghost Value = { Held };
 
-    ghost view = { λ s. record { ledger = s.entries.items; commit = s.commit } };
+    ghost view = { λ s. record { ledger = s.tail.entries; commit = s.commit } };
 
-    ghost invariant = { λ s. IsKept s.entries.items (record {
-      commit = s.commit;
-      state = s.state;
-    }) };
+    ghost invariant = { λ s. IsKept s.tail s.commit };
 }
 
 impl Store {
@@ -60,7 +56,8 @@ impl Store {
     ghost use Rattle.gl_merkle.specs.Tree.{root_of};
     ghost use Rattle.gl_ledger.specs.Tree.{writes_of, leaves_of};
     ghost use Rattle.gl_ledger.specs.Recordings.{last_entry, requests_of};
-    ghost use Rattle.gl_ledger.specs.Past.{is_unopened, last_commit, last_signed};
+    ghost use Rattle.gl_ledger.specs.Makers.{evidence_result};
+    ghost use Rattle.gl_ledger.specs.Past.{is_unopened, last_commit, last_signed, past_of};
     ghost use Rattle.gl_ledger.specs.Broken.{broken};
     ghost use Rattle.gl_ledger.specs.Sound.{IsSound};
     ghost use Rattle.gl_ledger.specs.Audit.{audited, fault_from};
@@ -68,7 +65,6 @@ impl Store {
     ghost use Rattle.gl_ledger.specs.NodeKeys.{NodeKeys, service_layers};
     ghost use Rattle.gl_ledger.specs.LedgerBook.{ledger_book};
     ghost use Rattle.gl_ledger.specs.Signed.{IsSignedUpTo};
-    ghost use Rattle.gl_receipt.specs.Made.{signature_above};
     ghost use Rattle.gl_audit.specs.Kept.{Breaks};
     ghost use Rattle.gl_store.specs.Calls.{IsNodeOf, StopsAt, Opens, IsNotOpened};
 
@@ -77,10 +73,8 @@ impl Store {
         ensures { IfOk result (λ store. store ≡ record { ledger = []; commit = 0 }) }
     {
         Ok(Store {
-            entries: Vec::new(alloc),
-            state: LedgerState::new(alloc)?,
+            tail: LedgerTail::new(alloc)?,
             commit: 0,
-            alloc,
         })
     }
 
@@ -146,7 +140,7 @@ impl Store {
         ensures valid { audited service_layers self.now.ledger ≡ None }
         ensures sound { IsSound service_layers self.now.ledger }
     {
-        self.entries.len() as u64
+        self.tail.ledger_len()
     }
 
     /// The entry with a seqno. `None` at 0 and above the last.
@@ -155,7 +149,7 @@ impl Store {
         ensures fits { IfSome result (λ e. is_entry e.now ≡ true) }
         ensures numbered { IfSome result (λ e. e.now.seqno ≡ seqno) }
     {
-        entry_at(&self.entries, seqno)
+        self.tail.entry(seqno)
     }
 
     /// All entries, in order.
@@ -163,7 +157,7 @@ impl Store {
         ensures entries { result.now ≡ self.now.ledger }
         ensures fit { AllByRecursion (λ e. is_entry e ≡ true) self.now.ledger }
     {
-        &self.entries
+        self.tail.entries()
     }
 
     /// The view of the entry with a seqno. `None` at 0 and above the last.
@@ -182,35 +176,36 @@ impl Store {
         ensures stands { StandsFor result.now (writes_of self.now.ledger) }
         ensures base { result.now.base ≡ 0 }
     {
-        &self.state.tables
+        &self.tail.state().tables
     }
 
     /// The state of governance: the requests that the ledger records.
     pub fn gov(&self) -> &GovState
-        ensures gov { result.now ≡ requests_of self.now.ledger }
+        ensures gov { result.now
+            ≡ record { base = None; requests = requests_of self.now.ledger } }
     {
-        &self.state.gov
+        &self.tail.state().gov
     }
 
     /// The seqno of the last signature, committed or not; 0 where there is none.
     pub fn last_signature(&self) -> u64
         ensures { result ≡ last_signed self.now.ledger }
     {
-        self.state.last_signed()
+        self.tail.state().last_signed()
     }
 
     /// The seqno of the last signature up to a seqno, 0 where there is none.
     pub fn signature_upto(&self, seqno: u64) -> u64
         ensures { result ≡ last_signed (take seqno self.now.ledger) }
     {
-        self.state.last_signed_up_to(seqno)
+        self.tail.state().last_signed_up_to(seqno)
     }
 
     /// The commit that the last signature records, 0 where there is none.
     pub fn last_recorded_commit(&self) -> u64
         ensures { result ≡ last_commit self.now.ledger }
     {
-        self.state.end().commit
+        self.tail.state().end().commit
     }
 
     /// The root of the Merkle tree over all entries.
@@ -218,21 +213,7 @@ impl Store {
         requires some { 0 < length self.now.ledger }
         ensures root { result ≡ root_of (leaves_of self.now.ledger) }
     {
-        self.state.root()
-    }
-
-    /// The first signature above a seqno, committed or not.
-    fn first_signature_above(&self, seqno: u64) -> Option<&Entry>
-        ensures first { option_copied result ≡ signature_above self.now.ledger seqno }
-        ensures above { IfSome result (λ e. seqno < e.now.seqno) }
-        ensures numbered { IfSome result (λ e.
-            entry_at self.now.ledger e.now.seqno ≡ option_copied result) }
-    {
-        let place = count_up_to(&self.state.signatures, seqno);
-        match seqno_at(&self.state.signatures, place) {
-            None => None,
-            Some(signed) => self.entry(signed),
-        }
+        self.tail.state().root()
     }
 
     /// Whether a service begins with the last entry, so that the next one has to be the signature
@@ -240,14 +221,14 @@ impl Store {
     pub fn is_unopened(&self) -> bool
         ensures { result ≡ is_unopened (last_entry self.now.ledger) }
     {
-        self.state.end().is_unopened
+        self.tail.state().end().is_unopened
     }
 
     /// The seqno of the entry that follows.
     fn next_seqno(&self) -> u64
         ensures { result ≡ length self.now.ledger + 1 }
     {
-        self.entries.len() as u64 + 1
+        self.tail.next_seqno()
     }
 
     /// The status of a transaction by what this store holds (CCF documentation, "Transaction
@@ -284,10 +265,7 @@ impl Store {
         }) }
         ensures err { OnErr result (self.new ≡ self.old) }
     {
-        self.entries.reserve(1)?;
-        self.state.push(&entry)?;
-        self.entries.push_reserved(entry);
-        Ok(())
+        self.tail.push(entry)
     }
 
     /// Adds an entry that another node made. Refused for the first rule of the audit that it breaks
@@ -300,10 +278,7 @@ impl Store {
         ensures refused { IfErr result (Breaks (broken service_layers self.old.ledger entry)) }
         ensures err { OnErr result (self.new ≡ self.old) }
     {
-        self.entries.reserve(1)?;
-        self.state.apply(&entry)?;
-        self.entries.push_reserved(entry);
-        Ok(())
+        self.tail.apply(entry)
     }
 
     /// Adds entries one after another, up to the first that breaks a rule.
@@ -328,9 +303,7 @@ impl Store {
         requires within { to ≤ length self.old.ledger }
         ensures { self.new ≡ record self.old { ledger = take to self.old.ledger } }
     {
-        let signed = self.state.last_signed_up_to(to);
-        self.entries.truncate(to as usize);
-        self.state.cut(to, LedgerEnd::of(&self.entries, signed));
+        self.tail.cut(to);
     }
 
     /// A store of its own that holds the same. Fails only where memory runs out.
@@ -338,20 +311,21 @@ impl Store {
         ensures { IfOk result (λ store. store ≡ self.now) }
     {
         Ok(Store {
-            entries: copy_entries(self.alloc, &self.entries)?,
-            state: self.state.copy(self.alloc)?,
+            tail: self.tail.copy()?,
             commit: self.commit,
-            alloc: self.alloc,
         })
     }
-}
 
-fn copy_entries(alloc: Global, entries: &[Entry]) -> Result<Vec<Entry>, AllocError>
-    ensures { IfOk result (λ copies. copies.items ≡ entries.now) }
-{
-    let mut copies = Vec::with_capacity(alloc, entries.len())?;
-    for entry in entries {
-        copies.push(entry.copy(alloc)?)?;
+    /// The entry of an evidence after the ledger in a view: the digest of the body of a snapshot of
+    /// all entries. The ledger stays without it. Refused, in this order, where the last entry is no
+    /// signature, where the body has more than 4,000,000,000 bytes, and where no seqno is left.
+    /// Reads each row twice, and copies none.
+    pub fn evidence_entry(&self, view: u32) -> Result<Entry, OrNoMemory<Rejection>>
+        ensures made { IfOk result (λ entry.
+            evidence_result (past_of self.now.ledger) view ≡ Ok entry) }
+        ensures refused { IfErr result (λ e.
+            Fails e (evidence_result (past_of self.now.ledger) view)) }
+    {
+        self.tail.evidence_entry(view)
     }
-    Ok(copies)
 }

@@ -1,12 +1,13 @@
 -- What holds of a key alone and stays with each record that folds holds of each state that a file
 -- opens to.
-use Rattle.std.proofs.Common.{◌≡◌, ℕ, zero, suc, ◌+◌, ◌≤◌, Bool, true, false, ◌||◌, nat_lt, if◌then◌else◌, List, [], ◌∷◌, length, Option, None, Some, Result, Ok, Err, refl, subst, arith, ltb-false}
+use Rattle.std.proofs.Common.{◌≡◌, ℕ, zero, suc, ◌+◌, ◌≤◌, Bool, true, false, ◌||◌, ◌&&◌, ◌==◌, nat_lt, if◌then◌else◌, List, [], ◌∷◌, length, Option, None, Some, Result, Ok, Err, refl, subst, arith, ltb-false}
 use Rattle.gl_base.specs.Cut.{Unread}
 use Rattle.gl_base.specs.declared.fault.CutFault.{CutFault}
 use Rattle.gl_journal.specs.Gates.{payload_at, payloads_of}
 use Rattle.gl_journal.specs.Records.{RecordValue, Key, Vote, Cut, Append, Signer, Install, Start, record_of}
-use Rattle.gl_journal.specs.Durable.{Durable, GoesOn, Folding, Next, leaf_count, key_alone, fold_record, first_record, fold_next, after_fold, after_record, after_body, fold_within, fold_payload, then_folding, fold_payloads, begins_with_key, fold_answer, durable_of, durable, journal_header}
+use Rattle.gl_journal.specs.Durable.{Durable, LogRules, Folding, Next, leaf_count, key_alone, installed, fold_record, first_record, fold_next, after_fold, after_record, after_body, fold_within, fold_payload, then_folding, fold_payloads, begins_with_key, fold_answer, durable_of, durable, journal_header}
 use Rattle.gl_journal.specs.declared.fault.JournalFault.{JournalFault}
+use Rattle.gl_journal.specs.declared.installed.Installed.{Installed}
 use Rattle.gl_journal.specs.declared.key.Key.{Key as KeyFields}
 
 module _ (P : Durable → Type 0) where
@@ -30,7 +31,7 @@ module _ (P : Durable → Type 0) where
   holds_if true next here = here
   holds_if false next here = tt
 
-  module _ (goes_on : GoesOn) (alone : (key : KeyFields) → P (key_alone key)) (stays : (s : Durable) (rec : RecordValue) → P s → HoldsAny (fold_record goes_on s rec)) where
+  module _ (goes_on : LogRules) (alone : (key : KeyFields) → P (key_alone key)) (stays : (s : Durable) (rec : RecordValue) → P s → HoldsAny (fold_record goes_on s rec)) where
     first_holds : (rec : RecordValue) → HoldsAny (first_record rec)
     first_holds (Key key) = alone key
     first_holds (Vote view vote) = tt
@@ -102,6 +103,7 @@ module _ (P : Durable → Type 0) where
 -- No snapshot was installed, and no more leaves are spent than there are.
 pub record IsOrdered (s : Durable) : Type 0 where
   pub base : s.base ≡ 0
+  pub snapshot : s.snapshot ≡ None
   pub within : s.reserved ≤ leaf_count s
 
 not_second : (a b : Bool) → (a || b) ≡ false → b ≡ false
@@ -109,17 +111,27 @@ not_second true b is = cc
 not_second false b is = is
 
 ordered_alone : (key : KeyFields) → IsOrdered (key_alone key)
-ordered_alone key = record { base = refl; within = omega arith }
+ordered_alone key = record { base = refl; snapshot = refl; within = omega arith }
 
-ordered_stays : (goes_on : GoesOn) (s : Durable) (rec : RecordValue) → IsOrdered s → HoldsAny IsOrdered (fold_record goes_on s rec)
-ordered_stays goes_on s (Key key) here = tt
-ordered_stays goes_on s (Vote view vote) here = holds_unless IsOrdered (nat_lt view s.view) _ (λ is. record { base = here.base; within = here.within })
-ordered_stays goes_on s (Cut to) here = holds_unless IsOrdered (nat_lt to s.base || nat_lt (s.base + length s.log) to) _ (λ is. record { base = here.base; within = here.within })
-ordered_stays goes_on s (Append frame) here = holds_if IsOrdered (goes_on s.log frame) _ (record { base = here.base; within = here.within })
-ordered_stays goes_on s (Signer reserved) here = holds_unless IsOrdered (nat_lt reserved s.reserved || nat_lt (leaf_count s) reserved) _
-    (λ is. record { base = here.base; within = ltb-false (leaf_count s) reserved (not_second (nat_lt reserved s.reserved) (nat_lt (leaf_count s) reserved) is) })
-ordered_stays goes_on s (Install body) here = tt
-ordered_stays goes_on s (Start leaves) here = holds_unless IsOrdered (nat_lt (leaf_count s) leaves) _ (λ is. record { base = here.base; within = here.within })
+-- bytes that are no snapshot don't fold
+none_installed : (s : Durable) (body : List ℕ) (first : Bool) (found : Option Installed) → found ≡ None → HoldsAny IsOrdered (if first then installed s body found else None)
+none_installed s body true None is = tt
+none_installed s body true (Some at) is = absurd (cc)
+none_installed s body false found is = tt
 
-pub durable_ordered : (goes_on : GoesOn) (file : List ℕ) (s : Durable) → durable goes_on file ≡ Ok s → IsOrdered s
-durable_ordered goes_on file s is = durable_holds IsOrdered goes_on ordered_alone (ordered_stays goes_on) file s is
+-- No bytes are a snapshot.
+abbrev pub TakesNone : LogRules → Type 0
+TakesNone goes_on = (body : List ℕ) → goes_on.installs body ≡ None
+
+ordered_stays : (goes_on : LogRules) → TakesNone goes_on → (s : Durable) (rec : RecordValue) → IsOrdered s → HoldsAny IsOrdered (fold_record goes_on s rec)
+ordered_stays goes_on none s (Key key) here = tt
+ordered_stays goes_on none s (Vote view vote) here = holds_unless IsOrdered (nat_lt view s.view) _ (λ is. record { base = here.base; snapshot = here.snapshot; within = here.within })
+ordered_stays goes_on none s (Cut to) here = holds_unless IsOrdered (nat_lt to s.base || nat_lt (s.base + length s.log) to) _ (λ is. record { base = here.base; snapshot = here.snapshot; within = here.within })
+ordered_stays goes_on none s (Append frame) here = holds_if IsOrdered (goes_on.appends s.snapshot s.log frame) _ (record { base = here.base; snapshot = here.snapshot; within = here.within })
+ordered_stays goes_on none s (Signer reserved) here = holds_unless IsOrdered (nat_lt reserved s.reserved || nat_lt (leaf_count s) reserved) _
+    (λ is. record { base = here.base; snapshot = here.snapshot; within = ltb-false (leaf_count s) reserved (not_second (nat_lt reserved s.reserved) (nat_lt (leaf_count s) reserved) is) })
+ordered_stays goes_on none s (Install body) here = none_installed s body ((s.base == 0) && (length s.log == 0)) (goes_on.installs body) (none body)
+ordered_stays goes_on none s (Start leaves) here = holds_unless IsOrdered (nat_lt (leaf_count s) leaves) _ (λ is. record { base = here.base; snapshot = here.snapshot; within = here.within })
+
+pub durable_ordered : (goes_on : LogRules) → TakesNone goes_on → (file : List ℕ) (s : Durable) → durable goes_on file ≡ Ok s → IsOrdered s
+durable_ordered goes_on none file s is = durable_holds IsOrdered goes_on ordered_alone (ordered_stays goes_on none) file s is

@@ -20,7 +20,7 @@ use Rattle.gl_ledger.specs.declared.breach.Broken.{Broken}
 use Rattle.gl_ledger.proofs.Auditing.{audited_none}
 use Rattle.gl_ledger.proofs.Valid.{valid_sound}
 use Rattle.gl_node.specs.Frames.{EachGoesOn}
-use Rattle.gl_store_book.specs.Frames.{whole_entry, entry_of_frame, ledger_of_frames, is_unbroken, goes_on_ledger, frames_of}
+use Rattle.gl_store_book.specs.Frames.{whole_entry, entry_of_frame, ledger_of_frames, is_unbroken, frame_goes_on, goes_on_ledger, frames_of}
 
 -- ---- one frame
 
@@ -78,10 +78,10 @@ none_yet (Err e) o none is = tt
 
 -- whether a frame goes on those of a ledger
 pub goes_on-ledger : (log : List (List ℕ)) (ledger : List Entry) (frame : List ℕ) (o : Option Entry) → log ≡ map frame_bytes ledger → AllFit ledger → entry_of_frame frame ≡ o
-    → goes_on_ledger log frame ≡ is_unbroken (Some ledger) o
+    → frame_goes_on log frame ≡ is_unbroken (Some ledger) o
 goes_on-ledger log ledger frame o same fits is = rw (same, ledger_of_frames-map ledger fits, is) refl
 
-pub no_frame : (log : List (List ℕ)) (frame : List ℕ) → entry_of_frame frame ≡ None → goes_on_ledger log frame ≡ false
+pub no_frame : (log : List (List ℕ)) (frame : List ℕ) → entry_of_frame frame ≡ None → frame_goes_on log frame ≡ false
 no_frame log frame none = go (ledger_of_frames log)
   where
     go : (o : Option (List Entry)) → is_unbroken o (entry_of_frame frame) ≡ false
@@ -104,14 +104,14 @@ pub record IsPushed (log : List (List ℕ)) (ledger : List Entry) (frame : List 
   pub is : read ≡ Some e
 
 pub pushed : (log : List (List ℕ)) (ledger : List Entry) (frame : List ℕ) (read : Option Entry) (e : Entry) (new : List Entry) → IsPushed log ledger frame read e
-    → broken service_layers ledger e ≡ None → new ≡ ledger ++ e ∷ [] → (goes_on_ledger log frame ≡ true) × (map frame_bytes new ≡ log ++ frame ∷ [])
+    → broken service_layers ledger e ≡ None → new ≡ ledger ++ e ∷ [] → (frame_goes_on log frame ≡ true) × (map frame_bytes new ≡ log ++ frame ∷ [])
 pushed log ledger frame read e new p none grown = (
   goes_on-ledger log ledger frame (Some e) p.same p.fits (sym p.value ∙ p.is) ∙ ap (λ (o : Option Broken). is_none o) none,
   ap (map frame_bytes) grown ∙ frames_push ledger e frame (encoded_some read e frame p.is p.encoded) ∙ ap (λ (l : List (List ℕ)). l ++ frame ∷ []) (sym p.same),
 )
 
 pub not_pushed : (log : List (List ℕ)) (ledger : List Entry) (frame : List ℕ) (read : Option Entry) (e : Entry) (b : Broken) → IsPushed log ledger frame read e
-    → broken service_layers ledger e ≡ Some b → goes_on_ledger log frame ≡ false
+    → broken service_layers ledger e ≡ Some b → frame_goes_on log frame ≡ false
 not_pushed log ledger frame read e b p some =
     goes_on-ledger log ledger frame (Some e) p.same p.fits (sym p.value ∙ p.is) ∙ ap (λ (o : Option Broken). is_none o) some
 
@@ -119,7 +119,7 @@ pub frames_take : (n : ℕ) (old : Option (List Entry)) (ledger new : List Entry
 frames_take n old ledger new is cut = ap (map frame_bytes) cut ∙ sym (take-map frame_bytes n ledger) ∙ ap (λ (o : Option (List Entry)). take n (frames_of o)) (sym is)
 
 -- the frame of each entry of a valid ledger goes on those before it
-pub follow_each : (ledger : List Entry) → audited service_layers ledger ≡ None → EachGoesOn goes_on_ledger (map frame_bytes ledger)
+pub follow_each : (ledger : List Entry) → audited service_layers ledger ≡ None → EachGoesOn goes_on_ledger None (map frame_bytes ledger)
 follow_each ledger valid i frame at =
     let there = entry_there (slice_get ledger i) refl (sym (slice_get-map frame_bytes ledger i) ∙ at) in
     let sound = valid_sound service_layers ledger valid in

@@ -1,5 +1,5 @@
 -- What a node's file folds into.
-use Rattle.std.proofs.Common.{◌≡◌, ◌≤◌, ◌++◌, ℕ, max, List, [], Ok, Some, ap, sym, ◌∙◌}
+use Rattle.std.proofs.Common.{◌≡◌, ◌≤◌, ◌++◌, ℕ, max, List, [], Ok, Some, refl, ap, sym, ◌∙◌}
 use Rattle.gl_rules.specs.Identity.{NodeId}
 use Rattle.gl_rules.specs.World.{Start}
 use Rattle.gl_entry.specs.declared.entry.Entry.{Entry}
@@ -17,7 +17,7 @@ use Rattle.gl_store_book.proofs.ServiceStarts.{start_valid, start_fits}
 
 -- no file tells of more reserved leaves than its key has
 pub limited : (file : List ℕ) (old new : Durable) → (old.reserved ≤ leaf_count old → new ≡ old) → opened file ≡ Ok old → opened file ≡ Ok new
-limited file old new same is = is ∙ ap (λ (d : Durable). Ok d) (sym (same (durable_ordered goes_on_ledger file old is).within))
+limited file old new same is = is ∙ ap (λ (d : Durable). Ok d) (sym (same (durable_ordered goes_on_ledger (λ body. refl) file old is).within))
 
 -- the batch of an opening that was read
 pub read_folds : (bytes : List ℕ) (ledger : List Entry) (first : NodeId) (d : Durable) (t : ViewVote) (entries : List Entry) (s : Start Entry)

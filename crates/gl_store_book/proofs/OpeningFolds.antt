@@ -14,7 +14,7 @@ use Rattle.gl_ledger.specs.Audit.{audited}
 use Rattle.gl_ledger.specs.Broken.{broken}
 use Rattle.gl_ledger.specs.NodeKeys.{service_layers}
 use Rattle.gl_ledger.proofs.Auditing.{audited_none}
-use Rattle.gl_store_book.specs.Frames.{goes_on_ledger}
+use Rattle.gl_store_book.specs.Frames.{frame_goes_on, goes_on_ledger}
 use Rattle.gl_node.specs.Kept.{is_same_vote, with_vote}
 use Rattle.gl_store_book.specs.AtOpening.{opening_view, vote_at_opening, opened_state, vote_records, append_records, opening_records}
 use Rattle.gl_store_book.proofs.FrameLaws.{AllFit, goes_on-ledger, entry_of_frame-frame_bytes}
@@ -33,7 +33,7 @@ fit_prefix (x ∷ xs) ys fit zero e at = fit zero e at
 fit_prefix (x ∷ xs) ys fit (suc i) e at = fit_prefix xs ys (λ j d is. fit (suc j) d is) i e at
 
 -- the frame of a valid ledger's entry goes on those before it
-pub goes_on_here : (before es : List Entry) (e : Entry) → audited service_layers (before ++ e ∷ es) ≡ None → AllFit (before ++ e ∷ es) → goes_on_ledger (map frame_bytes before) (frame_bytes e) ≡ true
+pub goes_on_here : (before es : List Entry) (e : Entry) → audited service_layers (before ++ e ∷ es) ≡ None → AllFit (before ++ e ∷ es) → frame_goes_on (map frame_bytes before) (frame_bytes e) ≡ true
 goes_on_here before es e valid fit =
     let at = there before es e in
     let none : broken service_layers before e ≡ None = ap (λ (l : List Entry). broken service_layers l e) (sym (prefix before (e ∷ es))) ∙ audited_none service_layers (before ++ e ∷ es) valid (length before) e at in
@@ -47,7 +47,7 @@ appends_fold d before [] valid fit is = ap (λ (l : List (List ℕ)). Some (reco
 appends_fold d before (e ∷ es) valid fit is =
     let next : Durable = record d { log = d.log ++ frame_bytes e ∷ [] } in
     let whole : (before ++ e ∷ []) ++ es ≡ before ++ e ∷ es = append_assoc before (e ∷ []) es in
-    let goes : goes_on_ledger d.log (frame_bytes e) ≡ true = ap (λ (l : List (List ℕ)). goes_on_ledger l (frame_bytes e)) is ∙ goes_on_here before es e valid fit in
+    let goes : frame_goes_on d.log (frame_bytes e) ≡ true = ap (λ (l : List (List ℕ)). frame_goes_on l (frame_bytes e)) is ∙ goes_on_here before es e valid fit in
     let grown : next.log ≡ map frame_bytes (before ++ e ∷ []) = ap (λ (l : List (List ℕ)). l ++ frame_bytes e ∷ []) is ∙ sym (map-append frame_bytes before (e ∷ [])) in
     ap (λ (b : Bool). then_some (if b then Some next else None) (λ (s : Durable). fold_records goes_on_ledger s (append_records es))) goes
     ∙ appends_fold next (before ++ e ∷ []) es (subst (λ (l : List Entry). audited service_layers l ≡ None) (sym whole) valid) (subst AllFit (sym whole) fit) grown

@@ -1,5 +1,5 @@
 -- A node is restarted from what its file keeps of it.
-use Rattle.std.proofs.Common.{◌≡◌, ℕ, List, Option, Ok, Result, map, refl, sym, ap, subst, ◌∙◌}
+use Rattle.std.proofs.Common.{◌≡◌, ℕ, List, Option, Ok, Result, drop, map, refl, sym, ap, subst, ◌∙◌}
 use Rattle.gl_entry.specs.Entry.{frame_bytes}
 use Rattle.gl_entry.specs.declared.entry.Entry.{Entry}
 use Rattle.gl_rules.specs.Identity.{NodeId}
@@ -29,7 +29,7 @@ use Rattle.gl_store_book.specs.NodeFile.{opened}
 use Rattle.gl_store_book.specs.Restarts.{GivesRestart}
 use Rattle.gl_store_book.specs.Stands.{NodeStore, Stands}
 use Rattle.gl_store_book.proofs.FrameLaws.{ledger_of_frames-map}
-use Rattle.gl_store_book.proofs.ServedNodes.{ledger_in, ledger_is}
+use Rattle.gl_store_book.proofs.ServedNodes.{held_in, ledger_is}
 use Rattle.gl_store_book.proofs.ValidSteps.{IsValid, IsWhole, step_whole}
 
 -- what a restart leaves of a node that has this and forgot the rest
@@ -62,9 +62,9 @@ module _ (core : NodeCore) (valid : IsValid core.book.ledger) (b : ServiceBook) 
   whole_node = record { base = ap (λ (h : Holding Entry). h.base) s.ledger.holding; valid = subst IsValid (sym log_of) valid }
 
   -- a file that keeps the node
-  pub restarts : (bytes : List ℕ) → OpensToCore ledger_in goes_on_ledger bytes core → (d : Durable) → opened bytes ≡ Ok d → GivesRestart b n d
+  pub restarts : (bytes : List ℕ) → OpensToCore held_in goes_on_ledger bytes core → (d : Durable) → opened bytes ≡ Ok d → GivesRestart b n d
   restarts bytes opens d is =
-      let f = subst (λ (v : Durable). IsFileOf ledger_in v core) (same_ok {E = JournalFault} opens.0 d (sym opens.1 ∙ is)) opens.2 in
+      let f = subst (λ (v : Durable). IsFileOf held_in v core) (same_ok {E = JournalFault} opens.0 d (sym opens.1 ∙ is)) opens.2 in
       gives_restart b d n whole_node
       (f.view ∙ ap (λ (m : Node Entry). m.view) s.same)
       (f.vote ∙ ap (λ (m : Node Entry). m.vote) s.same)
@@ -76,4 +76,5 @@ module _ (core : NodeCore) (valid : IsValid core.book.ledger) (b : ServiceBook) 
   restarts_next e d =
       subst (λ (v : ServiceBook). GivesRestart v (rule_of e v x n).node (kept_after d (rule_of e v x n).node)) (sym s.ledger.book)
       (gives_restart (ledger_book service_layers s.ledger.keys) (kept_after d (rule_of e (ledger_book service_layers s.ledger.keys) x n).node) (rule_of e (ledger_book service_layers s.ledger.keys) x n).node
-      (step_whole s.ledger.keys x e n whole_node) refl refl refl refl)
+      (step_whole s.ledger.keys x e n whole_node) refl refl
+      (ap (λ (i : ℕ). map frame_bytes (drop i (rule_of e (ledger_book service_layers s.ledger.keys) x n).node.log)) (step_whole s.ledger.keys x e n whole_node).base) refl)

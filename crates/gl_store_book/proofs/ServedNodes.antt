@@ -1,5 +1,5 @@
 -- A node that stands for one of the rules, over a file that keeps it, serves.
-use Rattle.std.proofs.Common.{◌≡◌, ℕ, ◌≤◌, ◌^◌, List, [], Bool, true, false, Option, Some, map, unwrap_or, refl, sym, ap, subst, ◌∙◌}
+use Rattle.std.proofs.Common.{◌≡◌, ℕ, ◌≤◌, ◌^◌, List, [], Bool, true, false, IsTrue, Option, None, Some, map, unwrap_or, refl, sym, ap, subst, ◌∙◌, arith}
 use Rattle.gl_hss.specs.Secrets.{PrivateKey}
 use Rattle.gl_hss.specs.Types.{height}
 use Rattle.gl_rules.specs.Identity.{NodeId}
@@ -16,12 +16,13 @@ use Rattle.gl_ledger.specs.NodeKeys.{NodeKeys, service_layers}
 use Rattle.gl_ledger.specs.LedgerBook.{ServiceBook, ledger_book}
 use Rattle.gl_replication.specs.Holding.{Holding}
 use Rattle.gl_replication.specs.Stands.{StandsFor}
-use Rattle.gl_node.specs.Persistence.{HoldsWhole, IsFileOf, IsServing}
+use Rattle.gl_node.specs.Kept.{Kept}
+use Rattle.gl_node.specs.Persistence.{HoldsAbove, IsFileOf, IsHeldOf, IsServing}
 use Rattle.gl_store_book.specs.AtOpening.{kept_ledger, restarted_node, vote_at_opening, opened_state, leads_at_opening, node_at_opening}
 use Rattle.gl_store_book.specs.Frames.{goes_on_ledger, ledger_of_frames}
 use Rattle.gl_store_book.specs.NodeFile.{IsOpened, key_of, node_of}
 use Rattle.gl_store_book.specs.Replicas.{NodeCore, StandsForFile}
-use Rattle.gl_store_book.specs.Stands.{NodeStore, Stands}
+use Rattle.gl_store_book.specs.Stands.{NodeStore, Stands, no_snapshot, whole_kept}
 use Rattle.gl_store_book.specs.ViewVotes.{IsViewVoteOf}
 use Rattle.gl_store_book.specs.declared.node_file.opening_batch.ViewVote.{ViewVote}
 use Rattle.gl_store_book.proofs.FoldedStates.{durable_ordered}
@@ -37,11 +38,13 @@ keys_with-key : (key : PrivateKey) (x : NodeId) → (keys_with key).key_of x ≡
 unfolding keys_with
 keys_with-key key x = refl
 
-abbrev pub ledger_in : NodeStore → List Entry
-ledger_in s = s.ledger
+abbrev pub held_in : NodeStore → Kept
+held_in s = whole_kept s.ledger
 
-pub holds_whole : (s : NodeStore) → HoldsWhole Stands ledger_in s
-holds_whole s b h stands = (ap (λ (k : Holding Entry). k.base) stands.holding, ap (λ (k : Holding Entry). k.log) stands.holding)
+pub holds_whole : (s : NodeStore) → HoldsAbove Stands held_in no_snapshot s
+holds_whole s b h stands =
+    subst (IsHeldOf no_snapshot (held_in s)) (sym stands.holding)
+    (record { base = refl; within = omega arith; entries = refl; snapshot = refl })
 
 -- A file with this durable state keeps a node.
 pub record Keeps (d : Durable) (n : Node Entry) : Type 0 where
@@ -50,29 +53,31 @@ pub record Keeps (d : Durable) (n : Node Entry) : Type 0 where
   pub log : map frame_bytes n.log ≡ d.log
   pub reserved : n.reserved ≡ d.reserved
 
-file_of : (c : NodeCore) (b : ServiceBook) (x : NodeId) (n : Node Entry) (d : Durable) → StandsFor Stands c b x n → Keeps d n → d.base ≡ 0 → IsFileOf ledger_in d c
-file_of c b x n d s k base = record {
+file_of : (c : NodeCore) (b : ServiceBook) (x : NodeId) (n : Node Entry) (d : Durable) → StandsFor Stands c b x n → Keeps d n → d.base ≡ 0 → d.snapshot ≡ None → IsFileOf held_in d c
+file_of c b x n d s k base snapshot = record {
   view = sym k.view ∙ sym (ap (λ (m : Node Entry). m.view) s.same);
   vote = sym k.vote ∙ sym (ap (λ (m : Node Entry). m.vote) s.same);
   base = base;
+  snapshot = snapshot;
   log = sym k.log ∙ ap (λ (h : Holding Entry). map frame_bytes h.log) s.ledger.holding;
   reserved = sym k.reserved ∙ sym (ap (λ (m : Node Entry). m.reserved) s.same);
 }
 
 pub serving : {D : Type 0} (honest : Bool) (bytes : D → List ℕ) (past : D → List Step) (journal : Journal D) (d : Durable) (core : NodeCore) (node : ServiceBook → Node Entry)
-    → IsOpened honest bytes past journal d → StandsForFile d core node → ((b : ServiceBook) → Keeps d (node b)) → IsServing Stands ledger_in goes_on_ledger honest bytes past core journal
+    → IsOpened honest bytes past journal d → StandsForFile d core node → ((b : ServiceBook) → Keeps d (node b)) → IsServing Stands held_in no_snapshot goes_on_ledger honest bytes past core journal
 unfolding keys_with
 serving honest bytes past journal d core node file stands keeps =
     let keys = keys_with (key_of d) in
     let here = stands keys (keys_with-key (key_of d) (node_of d)) in
+    let ordered = λ (h : IsTrue honest). durable_ordered goes_on_ledger (λ body. refl) (bytes journal.gated.disk) d (file.opens h) in
     record {
       some = record { rules = book keys; me = node_of d; node = node (book keys); standing = here };
-      whole = holds_whole core.book;
+      above = holds_whole core.book;
       file = λ h. record {
         kept = file.kept h;
         state = d;
         opens = file.opens h;
-        keeps = file_of core (book keys) (node_of d) (node (book keys)) d here (keeps (book keys)) (durable_ordered goes_on_ledger (bytes journal.gated.disk) d (file.opens h)).base;
+        keeps = file_of core (book keys) (node_of d) (node (book keys)) d here (keeps (book keys)) (ordered h).base (ordered h).snapshot;
         leaves = refl;
       };
     }

@@ -5,7 +5,7 @@ use Rattle.gl_entry.specs.Entry.{frame_bytes}
 use Rattle.gl_entry.specs.Parsing.{first_entry}
 use Rattle.gl_entry.specs.declared.entry.Entry.{Entry}
 use Rattle.gl_entry.specs.declared.fault.EntryFault.{EntryFault}
-use Rattle.gl_journal.specs.Durable.{GoesOn}
+use Rattle.gl_journal.specs.Durable.{LogRules}
 use Rattle.gl_ledger.specs.NodeKeys.{service_layers}
 use Rattle.gl_ledger.specs.Broken.{broken}
 
@@ -31,8 +31,15 @@ is_unbroken (Some ledger) (Some e) = is_none (broken service_layers ledger e)
 
 -- A frame goes on those before it where these are the frames of a ledger and it is the frame, all
 -- of it, of an entry that breaks no rule of the audit after that ledger.
-abbrev pub goes_on_ledger : GoesOn
-goes_on_ledger log frame = is_unbroken (ledger_of_frames log) (entry_of_frame frame)
+abbrev pub frame_goes_on : List (List ℕ) → List ℕ → Bool
+frame_goes_on log frame = is_unbroken (ledger_of_frames log) (entry_of_frame frame)
+
+-- What the file of a node lets in: no snapshot yet.
+abbrev pub goes_on_ledger : LogRules
+goes_on_ledger = record {
+  appends = λ snapshot log frame. frame_goes_on log frame;
+  installs = λ body. None;
+}
 
 -- The frames of the entries of a ledger, if there is one.
 abbrev pub frames_of : Option (List Entry) → List (List ℕ)

@@ -24,7 +24,7 @@ struct CommittedStore<'a> {
 
 impl CommittedLedger for CommittedStore<'_> {
     // The store has all its entries.
-    ghost stands = { λ c l. l ≡ receipts_of c.store.now.ledger c.commit };
+    ghost stands = { λ c l. l ≡ receipts_of 0 c.store.now.ledger c.commit };
 
     ghost base_of = { λ c. 0 };
 
@@ -71,7 +71,7 @@ fn receipt_by(
     id: TxId,
 ) -> Result<Receipt, OrNoMemory<MakeFault>>
     ensures { Answers (λ r. r) result
-        (receipt_of (receipts_of ledger.now.store.now.ledger ledger.now.commit) id) }
+        (receipt_of (receipts_of 0 ledger.now.store.now.ledger ledger.now.commit) id) }
 {
     make(alloc, ledger, id)
 }

@@ -1,6 +1,6 @@
 -- The rows that writes leave where rows stood before: they are in order, and those of the tables
 -- that the writes make.
-use Rattle.std.proofs.Common.{◌≡◌, ℕ, Bool, true, false, if◌then◌else◌, List, [], ◌∷◌, ◌++◌, Option, Some, None, refl, sym, ◌∙◌, ap, filter_map, option_map, nat_le, cond, arith}
+use Rattle.std.proofs.Common.{◌≡◌, ℕ, Bool, true, false, if◌then◌else◌, List, [], ◌∷◌, ◌++◌, Option, Some, None, refl, sym, ◌∙◌, ap, subst, filter_map, option_map, nat_le, cond, arith}
 use Rattle.std.specs.List.{AllByRecursion, cons_option}
 use Rattle.std.specs.declared.cmp.Ordering.TheVariants.{Less}
 use Rattle.std.proofs.lemmas.Bool.{and_from}
@@ -11,7 +11,7 @@ use Rattle.gl_vmaps.specs.Versions.{Placed, placed_at, is_to_row, up_to, writes_
 use Rattle.gl_vmaps.specs.Writes.{is_ordered, is_less, stands_before, write_order}
 use Rattle.gl_vmaps.specs.LastWrite.{last_write, value_after}
 use Rattle.gl_vmaps.specs.Changes.{set_from}
-use Rattle.gl_vmaps.specs.Rows.{row_writes, tables_with, AreRowsOf, row_left, rows_over}
+use Rattle.gl_vmaps.specs.Rows.{row_writes, tables_with, AreRowsOf, HasPut, row_left, rows_over}
 use Rattle.gl_vmaps.specs.declared.row.Row.{Row}
 use Rattle.gl_vmaps.specs.declared.write.Write.{Write}
 use Rattle.gl_vmaps.proofs.TablesLaws.{value_in-wrote_all, value_in-nothing, written_after-writes, written_after-append, written_by-applied}
@@ -125,3 +125,25 @@ pub rows-behind : (before rows : List Row) (ps : List Placed) (to : ℕ) → is_
 rows-behind before rows ps to first ordered are =
     only-over before rows (writes_up_to to ps) first ordered
     (λ n k. are n k ∙ ap (λ (t : Tables). value_in t n k) (written-over before ps to))
+
+-- ---- rows that a sink took
+
+pub put-alike : {took : List Row → Type 0} {value other : List ℕ → List ℕ → Option (List ℕ)} → ((n k : List ℕ) → value n k ≡ other n k) → HasPut value took → HasPut other took
+put-alike alike put = record {
+  rows = put.rows;
+  taken = put.taken;
+  ascending = put.ascending;
+  values = λ n k. put.values n k ∙ alike n k;
+}
+
+pub put-behind : {took : List Row → Type 0} (before : List Row) (ps : List Placed) (to : ℕ) → is_ordered (row_writes before) ≡ true →
+    HasPut (value_in (written_by (up_to to (placed_at 0 (row_writes before) ++ ps)))) took → took (rows_over before (writes_up_to to ps))
+put-behind {took} before ps to first put = subst took (rows-behind before put.rows ps to first put.ascending put.values) put.taken
+
+-- where they are all that stand, they are in order, and have the values
+pub put-ordered : {value : List ℕ → List ℕ → Option (List ℕ)} {old new : List Row} → old ≡ [] → HasPut value (λ rows. new ≡ old ++ rows) → is_ordered (row_writes new) ≡ true
+put-ordered none put = ap (λ rows. is_ordered (row_writes rows)) (put.taken ∙ ap (λ rows. rows ++ put.rows) none) ∙ put.ascending
+
+pub put-values : {value : List ℕ → List ℕ → Option (List ℕ)} {old new : List Row} → old ≡ [] → HasPut value (λ rows. new ≡ old ++ rows) →
+    (n k : List ℕ) → value_in (tables_with new) n k ≡ value n k
+put-values none put n k = ap (λ rows. value_in (tables_with rows) n k) (put.taken ∙ ap (λ rows. rows ++ put.rows) none) ∙ put.values n k

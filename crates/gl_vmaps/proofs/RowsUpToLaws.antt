@@ -235,20 +235,16 @@ after_all : (to : ℕ) (name : List ℕ) (es : List (Vec ℕ Global × Chains)) 
 after_all to name [] all = tt
 after_all to name (e ∷ es) all = after_rows to name e.0.items (entries e.1) (all_rows to es) all.0 (after_all to name es all.1)
 
-all-ordered : (to : ℕ) (es : List (Vec ℕ Global × Chains)) → AreAscending es → is_ordered (row_writes (all_rows to es)) ≡ true
+pub all-ordered : (to : ℕ) (es : List (Vec ℕ Global × Chains)) → AreAscending es → is_ordered (row_writes (all_rows to es)) ≡ true
 unfolding IsStrictlySortedBy
 all-ordered to [] ascending = refl
 all-ordered to (e ∷ es) ascending =
     ordered_rows to e.0.items (entries e.1) (all_rows to es) (entries_sorted e.1) (after_all to e.0.items es ascending.0) (all-ordered to es ascending.1)
 
-pub ordered-all : (to : ℕ) (es : List (Vec ℕ Global × Chains)) (rows : List Row) → rows ≡ all_rows to es → AreAscending es → is_ordered (row_writes rows) ≡ true
-ordered-all to es rows is ascending = subst (λ rs. is_ordered (row_writes rs) ≡ true) (sym is) (all-ordered to es ascending)
-
-pub values-all : (to : ℕ) (es : List (Vec ℕ Global × Chains)) (rows : List Row) → rows ≡ all_rows to es → AreAscending es → (name key : List ℕ) →
-    value_in (tables_with rows) name key ≡ last_value (versions_up_to to (found_in (maps_by es) name key))
-values-all to es rows is ascending name key =
-    ap (λ rs. value_in (tables_with rs) name key) is
-    ∙ value_in-rows (all_rows to es) name key (all-ordered to es ascending)
+pub values-all : (to : ℕ) (es : List (Vec ℕ Global × Chains)) → AreAscending es → (name key : List ℕ) →
+    value_in (tables_with (all_rows to es)) name key ≡ last_value (versions_up_to to (found_in (maps_by es) name key))
+values-all to es ascending name key =
+    value_in-rows (all_rows to es) name key (all-ordered to es ascending)
     ∙ all-here to es name key ascending
     ∙ ap (λ (t : Chains). value_at to (chain_of t key)) (sym (rows_in-by es name))
 
@@ -400,9 +396,20 @@ pub record ChainsTurn (to : ℕ) (name : List ℕ) (rows all : List Row) (rest :
   pub so_far : rows ++ chain_rows to name rest ≡ all
   pub each : AreChainsInOrder name rest
 
+-- a sink took rows that are up to the turn
+pub record TookChains (took : List Row → Type 0) (to : ℕ) (name : List ℕ) (all : List Row) (rest : List (Vec ℕ Global × VecDeque Version Global)) : Type 0 where
+  pub rows : List Row
+  pub taken : took rows
+  pub turn : ChainsTurn to name rows all rest
+
 pub record MapsTurn (to : ℕ) (rows all : List Row) (rest : List (Vec ℕ Global × Chains)) : Type 0 where
   pub so_far : rows ++ all_rows to rest ≡ all
   pub each : AreMapsInOrder rest
+
+pub record TookMaps (took : List Row → Type 0) (to : ℕ) (all : List Row) (rest : List (Vec ℕ Global × Chains)) : Type 0 where
+  pub rows : List Row
+  pub taken : took rows
+  pub turn : MapsTurn to rows all rest
 
 pub chains-begin : (to : ℕ) (name : List ℕ) (rows : List Row) (es rest : List (Vec ℕ Global × VecDeque Version Global)) (t : Chains) →
     rest ≡ es → AreAscending es → chains_by es ≡ t → ((key : List ℕ) → IsInOrder name key (chain_of t key)) → ChainsTurn to name rows (rows ++ rows_up_to to name (entries t)) rest
@@ -435,10 +442,10 @@ pub chains-done : (to : ℕ) (name : List ℕ) (rows all : List Row) (rest left 
 chains-done to name rows all rest left r turn is takes =
     sym (append-nil rows) ∙ sym (ap (λ es. rows ++ chain_rows to name es) (rest_all deref_pair rest left r is takes)) ∙ turn.so_far
 
-pub maps-begin : (to : ℕ) (rows : List Row) (es rest : List (Vec ℕ Global × Chains)) → rows ≡ [] → rest ≡ es → AreAscending es → ((name key : List ℕ) → IsInOrder name key (found_in (maps_by es) name key)) →
-    MapsTurn to rows (all_rows to es) rest
-maps-begin to rows es rest none begins ascending all =
-    subst (MapsTurn to rows (all_rows to es)) (sym begins) (record { so_far = ap (λ rs. rs ++ all_rows to es) none; each = each_map es ascending all })
+pub maps-begin : (to : ℕ) (rows : List Row) (es rest : List (Vec ℕ Global × Chains)) → rest ≡ es → AreAscending es → ((name key : List ℕ) → IsInOrder name key (found_in (maps_by es) name key)) →
+    MapsTurn to rows (rows ++ all_rows to es) rest
+maps-begin to rows es rest begins ascending all =
+    subst (MapsTurn to rows (rows ++ all_rows to es)) (sym begins) (record { so_far = refl; each = each_map es ascending all })
 
 pub maps-first : (to : ℕ) (rows all : List Row) (rest left : List (Vec ℕ Global × Chains)) (r : Option (Bor (Vec ℕ Global) × Bor Chains)) (name : Bor (Vec ℕ Global)) (chains : Bor Chains) (bytes : List ℕ) →
     MapsTurn to rows all rest → r ≡ Some (name, chains) → TakesFirst deref_pair rest r left → bytes ≡ name.now.items → (key : List ℕ) → IsInOrder bytes key (chain_of chains.now key)

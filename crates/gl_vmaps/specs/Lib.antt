@@ -8,6 +8,7 @@ pub mod Chains
 pub mod Journal
 pub mod Standing
 pub mod RowsUpTo
+pub mod Taking
 pub mod LastWrite
 pub mod Growth
 pub mod Changes

@@ -1,5 +1,5 @@
 -- Rows as they stand, each with its value: what tables at a base begin with.
-use Rattle.std.specs.Prelude.{◌≡◌, ℕ, ◌<◌, ◌≤◌, List, Option, Some, Bool, map, filter, filter_map, option_map, nat_lt}
+use Rattle.std.specs.Prelude.{◌≡◌, ℕ, ◌<◌, ◌≤◌, List, Option, Some, Bool, IsTrue, map, filter, filter_map, option_map, nat_lt}
 use Rattle.std.specs.List.{AllByRecursion}
 use Rattle.gl_vmaps.specs.Changes.{set_from}
 use Rattle.gl_vmaps.specs.Tables.{Tables, no_tables, wrote_all, value_in}
@@ -27,6 +27,14 @@ tables_with rows = wrote_all no_tables (row_writes rows)
 abbrev pub AreRowsOf : List Row → Tables → Type 0
 AreRowsOf rows tables =
     (map key : List ℕ) → value_in (tables_with rows) map key ≡ value_in tables map key
+
+-- The rows with these values, in their order, were taken.
+pub record HasPut (value : List ℕ → List ℕ → Option (List ℕ)) (took : List Row → Type 0) : Type 0
+  where
+    pub rows : List Row
+    pub taken : took rows
+    pub ascending : IsTrue (are_ascending rows)
+    pub values : (map key : List ℕ) → value_in (tables_with rows) map key ≡ value map key
 
 -- The row that a write leaves. One that is removed leaves none.
 abbrev pub row_left : Write → Option Row

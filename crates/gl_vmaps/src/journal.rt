@@ -4,13 +4,12 @@ ghost use Rattle.std.specs.Prelude.{◌≡◌, ◌≤◌, ◌-◌, ◌∷◌, []
 ghost use Rattle.std.specs.FinMap as finite;
 ghost use Rattle.gl_vmaps.specs.Chains.{maps_by, rows_in, found_in, with_versions, without_last, newest_place, trimmed};
 ghost use Rattle.gl_vmaps.specs.Kept.{last_value};
-ghost use Rattle.gl_vmaps.specs.Tables.{value_in};
-ghost use Rattle.gl_vmaps.specs.Rows.{row_writes, are_ascending, tables_with};
+ghost use Rattle.gl_vmaps.specs.Rows.{row_writes, HasPut};
 ghost use Rattle.gl_vmaps.specs.Standing.{versions_up_to};
 ghost use Rattle.gl_vmaps.specs.Journal.{is_first_up_to, settled_first, is_last_above, CanPop, popped_last, IsTidy, AreNamed, IsInOrder, AreFresh, pushed, written, pushed_maps, pushed_journal};
 
 use crate::name::{Key, MapName};
-use crate::row::Row;
+use crate::row::{Row, RowSink};
 use crate::table::{Table, Version};
 use crate::write::Write;
 use std::alloc::{AllocError, Global};
@@ -270,19 +269,17 @@ pub(crate) fn maps_of_rows(alloc: Global, rows: Vec<Row>) -> Result<Maps, AllocE
     Ok(maps)
 }
 
-/// The rows that all maps had at a place, each with its value, in their order. Fails only where
-/// memory runs out.
-pub(crate) fn rows_of_maps(alloc: Global, maps: &Maps, to: u64) -> Result<Vec<Row>, AllocError>
+/// Puts the rows that all maps had at a place, each with its value, in their order. Fails only
+/// where the sink does.
+pub(crate) fn put_rows<S: RowSink>(sink: &mut S, maps: &Maps, to: u64) -> Result<(), AllocError>
     requires { (name key : List ℕ) →
         IsInOrder name key (found_in (maps_by maps.now.entries) name key) }
-    ensures ascending { IfOk result (λ rows. IsTrue (are_ascending rows.items)) }
-    ensures values { IfOk result (λ rows. (name key : List ℕ) →
-        value_in (tables_with rows.items) name key ≡
-        last_value (versions_up_to to (found_in (maps_by maps.now.entries) name key))) }
+    ensures { OnOk result (HasPut (λ name key.
+        last_value (versions_up_to to (found_in (maps_by maps.now.entries) name key)))
+        (λ rows. S.took sink.old rows sink.new)) }
 {
-    let mut rows = Vec::new(alloc);
     for (map, table) in maps {
-        table.push_rows(alloc, &mut rows, map, to)?;
+        table.put_rows(sink, map, to)?;
     }
-    Ok(rows)
+    Ok(())
 }

@@ -15,7 +15,7 @@ mod write;
 
 pub use laws::{law_of_base, law_of_rows, law_of_rows_over};
 pub use name::{KEY_LIMIT, Key, MAP_NAME_LIMIT, MapName, VALUE_LIMIT, Value};
-pub use row::{Row, Rows};
+pub use row::{Row, RowSink, Rows};
 pub use table::Version;
 pub use tables::Tables;
 pub use write::{Write, Writes};

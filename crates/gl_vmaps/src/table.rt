@@ -10,8 +10,8 @@ ghost use Rattle.gl_vmaps.specs.Journal.{IsInOrder};
 ghost use Rattle.gl_vmaps.specs.Standing.{versions_up_to};
 ghost use Rattle.gl_vmaps.specs.RowsUpTo.{row_up_to};
 
-use crate::name::{Key, MapName, Value};
-use crate::row::Row;
+use crate::name::Value;
+use crate::row::RowSink;
 use std::alloc::{AllocError, Global};
 use std::collections::{BTreeMap, VecDeque};
 use std::marker::Model;
@@ -179,27 +179,22 @@ fn value_up_to(chain: &VecDeque<Version>, to: u64) -> Option<&Value>
     }
 }
 
-/// Adds a row with the value that it had at a place, if it had one.
-fn push_row(
-    alloc: Global,
-    rows: &mut Vec<Row>,
+/// Puts a row with the value that it had at a place, if it had one.
+fn put_row<S: RowSink>(
+    sink: &mut S,
     map: &[u8],
     key: &[u8],
     chain: &VecDeque<Version>,
     to: u64,
 ) -> Result<(), AllocError>
     requires { IsInOrder map.now key.now chain.now.items }
-    ensures { OnOk result (rows.new.items ≡
-        rows.old.items ++ row_up_to to map.now key.now chain.now.items) }
+    ensures { OnOk result (S.took sink.old (row_up_to to map.now key.now chain.now.items)
+        sink.new) }
 {
-    if let Some(value) = value_up_to(chain, to) {
-        rows.push(Row {
-            map: MapName::from_slice(alloc, map)?,
-            key: Key::from_slice(alloc, key)?,
-            value: value.copy(alloc)?,
-        })?;
+    match value_up_to(chain, to) {
+        None => Ok(()),
+        Some(value) => sink.put(map, key, value.as_slice()),
     }
-    Ok(())
 }
 
 /// Whether there is a version, and it has a value.
@@ -346,21 +341,20 @@ impl Table {
         trim_in(&mut self.rows, key, place);
     }
 
-    /// Adds the rows that the map with this name had at a place, each with its value. Fails only
-    /// where memory runs out.
-    pub(crate) fn push_rows(
+    /// Puts the rows that the map with this name had at a place, each with its value. Fails only
+    /// where the sink does.
+    pub(crate) fn put_rows<S: RowSink>(
         &self,
-        alloc: Global,
-        rows: &mut Vec<Row>,
+        sink: &mut S,
         map: &[u8],
         to: u64,
     ) -> Result<(), AllocError>
         requires { (key : List ℕ) → IsInOrder map.now key (chain_of self.now key) }
-        ensures { OnOk result (rows.new.items ≡
-            rows.old.items ++ rows_up_to to map.now (finite.entries self.now)) }
+        ensures { OnOk result (S.took sink.old (rows_up_to to map.now (finite.entries self.now))
+            sink.new) }
     {
         for (key, chain) in &self.rows {
-            push_row(alloc, rows, map, key, chain, to)?;
+            put_row(sink, map, key, chain, to)?;
         }
         Ok(())
     }

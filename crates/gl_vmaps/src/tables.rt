@@ -8,9 +8,9 @@ ghost use Rattle.gl_vmaps.specs.Chains.{maps_by, rows_in, found_in, present};
 
 use crate::journal::{
     Maps, Written, copy_journal, copy_maps, ends_above, maps_of_rows, newest_of, pop_last,
-    push_writes, rows_of_maps, settle_first, starts_up_to,
+    push_writes, put_rows, settle_first, starts_up_to,
 };
-use crate::row::Rows;
+use crate::row::{KeptRows, RowSink, Rows};
 use crate::table::Version;
 use crate::write::Writes;
 use std::alloc::{AllocError, Global};
@@ -87,7 +87,7 @@ fn value_in(version: &Version) -> Option<&[u8]>
 impl Tables {
     ghost use Rattle.std.specs.Prelude.{◌≡◌, ℕ, ◌<◌, ◌≤◌, ◌^◌, List, [], ◌++◌, IsTrue, IfSome, IfOk, OnOk, OnErr};
     ghost use Rattle.gl_vmaps.specs.Name.{is_value};
-    ghost use Rattle.gl_vmaps.specs.Rows.{row_writes, are_ascending, tables_with, rows_over, AreRowsOf};
+    ghost use Rattle.gl_vmaps.specs.Rows.{row_writes, are_ascending, tables_with, rows_over, AreRowsOf, HasPut};
     ghost use Rattle.gl_vmaps.specs.Kept.{Kept, versions_of, value_of, has_row, tables_of, count_of, version_of, map_version_of};
     ghost use Rattle.gl_vmaps.specs.Standing.{versions_in, value_up_to, StandsFor, HasApplied, HasCut, HasCompacted};
     ghost use Rattle.gl_vmaps.specs.Tables.{value_in, has_key, size_of};
@@ -220,6 +220,24 @@ impl Tables {
         self.compacted = self.compacted.max(to);
     }
 
+    /// Puts the rows after the entries up to a place, which is not below the compacted one, in
+    /// their order. Takes no memory but what the sink takes, and fails only where the sink does.
+    pub fn each_row<S: RowSink>(&self, to: u64, sink: &mut S) -> Result<(), AllocError>
+        requires { self.now.compacted ≤ to }
+        ensures value { OnOk result (HasPut (value_up_to self.now to)
+            (λ rows. S.took sink.old rows sink.new)) }
+        ensures cut { OnOk result ((cut : Kept) → HasCut self.now to cut →
+            HasPut (value_in (tables_of cut)) (λ rows. S.took sink.old rows sink.new)) }
+        ensures stands { OnOk result ((ps : List Placed) → StandsFor self.now ps →
+            HasPut (value_in (written_by (up_to to ps))) (λ rows. S.took sink.old rows sink.new)) }
+        ensures behind { OnOk result ((before : List Row) (ps : List Placed) →
+            IsTrue (are_ascending before) →
+            StandsFor self.now (placed_at 0 (row_writes before) ++ ps) →
+            S.took sink.old (rows_over before (writes_up_to to ps)) sink.new) }
+    {
+        put_rows(sink, &self.maps, to)
+    }
+
     /// The rows after the entries up to a place, which is not below the compacted one: what a
     /// snapshot at the place holds. Fails only where memory runs out.
     pub fn rows(&self, to: u64) -> Result<Rows, AllocError>
@@ -235,7 +253,12 @@ impl Tables {
             StandsFor self.now (placed_at 0 (row_writes before) ++ ps) →
             rows ≡ rows_over before (writes_up_to to ps)) }
     {
-        Ok(Rows::of(rows_of_maps(self.alloc, &self.maps, to)?))
+        let mut kept = KeptRows {
+            alloc: self.alloc,
+            items: Vec::new(self.alloc),
+        };
+        self.each_row(to, &mut kept)?;
+        Ok(Rows::of(kept.items))
     }
 
     /// Tables of their own with the same rows and versions. Fails only where memory runs out.

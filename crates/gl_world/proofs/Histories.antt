@@ -52,6 +52,7 @@ module _ {S Q G R A F : Type 0} where
   refused_by refusals.NotPeer o z a = (outcomes.NotPeer, a)
   refused_by (refusals.BelowBase base) o z a = (outcomes.BelowBase base, a)
   refused_by refusals.ViewLimit o z a = (outcomes.ViewLimit, a)
+  refused_by (refusals.NoLaterSignature commit) o z a = (outcomes.NoLaterSignature commit, a)
   refused_by (refusals.ByLedger why) o z a = (outcomes.ByLedger why, a)
 
   pub other_than_memory : (why : Refusal S Q G R A F) → (why ≡ refusals.NoMemory → ⊥) → is_no_memory why ≡ false
@@ -66,6 +67,7 @@ module _ {S Q G R A F : Type 0} where
   other_than_memory refusals.NotPeer other = refl
   other_than_memory (refusals.BelowBase base) other = refl
   other_than_memory refusals.ViewLimit other = refl
+  other_than_memory (refusals.NoLaterSignature commit) other = refl
   other_than_memory (refusals.ByLedger why) other = refl
 
 -- with the world as the code reads it

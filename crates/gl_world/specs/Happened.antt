@@ -39,6 +39,7 @@ is_no_memory (refusals.BelowCommit commit seqno) = false
 is_no_memory refusals.NotPeer = false
 is_no_memory (refusals.BelowBase base) = false
 is_no_memory refusals.ViewLimit = false
+is_no_memory (refusals.NoLaterSignature commit) = false
 is_no_memory (refusals.ByLedger why) = false
 
 -- Running out of memory leaves all as it was. Another refusal is that of the rules, and the event

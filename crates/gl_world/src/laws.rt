@@ -44,11 +44,11 @@ pub fn has_node_keys()
         length (endorsement_of s (number_of s x)) ≡ 2348 }
 {}
 
-/// A leader of such a service refuses no request, and no evidence, for a rule of the audit, whatever
-/// happened before. Nor does it refuse a signature with a leaf that its key has, where it is a node that starts by
-/// the settings, or one that joins by them; unless of the latter another key was recorded, whose
-/// digest is that of its own. A node that joined with a key of its own is not among those whose
-/// keys the world has, so nothing is said of its signatures.
+/// A leader of such a service refuses no request, and no evidence, for a rule of the audit,
+/// whatever happened before. Nor does it refuse a signature with a leaf that its key has, where it
+/// is a node that starts by the settings, or one that joins by them; unless of the latter another
+/// key was recorded, whose digest is that of its own. A node that joined with a key of its own is
+/// not among those whose keys the world has, so nothing is said of its signatures.
 pub fn is_unguarded()
     ensures executes { (s : Settings) → IsGroup s → (events : List ServiceEvent) (x : NodeId) →
         Leads service_layers (keys_of s) (start_of s) events x → (request : List Operation) →

@@ -1,7 +1,7 @@
 //! Key files on disks in memory, with a fault or a stop at each call. The digests of keys are by
 //! RFC 8554 over Python's hashlib, from a seed of 32 bytes 07.
 
-ghost use Rattle.std.specs.Prelude.{IfOk};
+ghost use Rattle.std.specs.Prelude.{None, IfOk};
 ghost use Rattle.gl_outside.specs.SureDisk.{disk_past};
 ghost use Rattle.gl_journal.specs.Frames.{is_frame};
 ghost use Rattle.gl_journal.specs.Parts.{items_of};
@@ -59,7 +59,8 @@ fn key_of(kind: KeyKind) -> Key {
 
 /// A member's key file, as it was begun.
 fn created(alloc: Global) -> Result<KeyFile<SureDisk, FrameLog>, OrNoMemory<KeyFileFault>>
-    ensures { IfOk result (λ file. IsOpened (λ _ frame. is_frame frame)
+    ensures { IfOk result (λ file. IsOpened
+        (record { appends = λ _ _ frame. is_frame frame; installs = λ _. None })
         (λ log. items_of log.frames.items) (λ d. d.bytes.items) disk_past file) }
 {
     match KeyFile::create(alloc, SureDisk::new(alloc), key_of(KeyKind::Member)) {
@@ -74,7 +75,8 @@ fn opened(
     bytes: &[u8],
     want: KeyKind,
 ) -> Result<KeyFile<SureDisk, FrameLog>, OrNoMemory<KeyFileFault>>
-    ensures { IfOk result (λ file. IsOpened (λ _ frame. is_frame frame)
+    ensures { IfOk result (λ file. IsOpened
+        (record { appends = λ _ _ frame. is_frame frame; installs = λ _. None })
         (λ log. items_of log.frames.items) (λ d. d.bytes.items) disk_past file) }
 {
     match KeyFile::open(alloc, SureDisk::holding(alloc, bytes)?, want) {

@@ -2,8 +2,8 @@
 
 use gl_config::{Active, Configuration, NodeId, NodeSet, Stage, are_distinct, majority};
 use std::alloc::{AllocError, Global};
-use std::process::Abort;
 use std::test::Fail;
+use t_checks::same;
 
 // The identifier of the node that a number names.
 fn id(number: u8) -> NodeId {
@@ -37,7 +37,7 @@ fn more_than_half(rt: HostRuntime) -> Result<(), Fail> {
     for (votes, configuration, is_majority) in cases {
         let votes = set(rt.alloc(), votes)?;
         let configuration = set(rt.alloc(), configuration)?;
-        assert_eq!(rt; majority(&votes, &configuration), is_majority);
+        same!(majority(&votes, &configuration), is_majority);
     }
     Ok(())
 }
@@ -74,7 +74,7 @@ fn nodes_are_replaced(rt: HostRuntime) -> Result<(), Fail> {
             None => active.quorum(&voters),
             Some(seqno) => active.quorum_upto(&voters, seqno),
         };
-        assert_eq!(rt; reported, is_enough);
+        same!(reported, is_enough);
     }
     for (commit, number, is_held) in [
         (2, 1, true),
@@ -84,14 +84,14 @@ fn nodes_are_replaced(rt: HostRuntime) -> Result<(), Fail> {
         (8, 3, true),
     ] {
         let active = Active::of(&configurations, commit);
-        assert_eq!(rt; active.holds(&id(number)), is_held);
+        same!(active.holds(&id(number)), is_held);
     }
     Ok(())
 }
 
 // A removal at seqno 5, signatures at 2, 6 and 8, a mark at 7.
 #[test]
-fn stages_in_their_order(rt: HostRuntime) {
+fn stages_in_their_order() -> Result<(), Fail> {
     for (removal, mark, last_signature, commit, stage) in [
         (None, None, 2, 2, None),
         (Some(5), None, 2, 2, Some(Stage::Ordered)),
@@ -100,6 +100,7 @@ fn stages_in_their_order(rt: HostRuntime) {
         (Some(5), Some(7), 8, 6, Some(Stage::Completed)),
         (Some(5), Some(7), 8, 8, Some(Stage::RetiredCommitted)),
     ] {
-        assert_eq!(rt; Stage::of(removal, mark, last_signature, commit), stage);
+        same!(Stage::of(removal, mark, last_signature, commit), stage);
     }
+    Ok(())
 }

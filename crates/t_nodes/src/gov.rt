@@ -31,10 +31,10 @@ const LIFE: [&[Row<'static>]; 14] = [
 fn governs_a_service(rt: HostRuntime) -> Result<(), Fail> {
     let mut bench = Bench::new(rt.alloc(), 2, 7, 6)?;
     for rows in LIFE {
-        play(&rt, &mut bench, rows)?;
+        play(&mut bench, rows)?;
     }
-    recovery::know_service(&rt, &bench)?;
-    recovery::know_members(&rt, &bench)?;
-    recovery::know_nodes(&rt, &bench)?;
-    recovery::know_proposals(&rt, &bench)
+    recovery::know_service(&bench)?;
+    recovery::know_members(&bench)?;
+    recovery::know_nodes(&bench)?;
+    recovery::know_proposals(&bench)
 }

@@ -10,6 +10,7 @@ use gl_store_book::StoreBook;
 use gl_tx::Abort;
 use std::alloc::Global;
 use std::test::Fail;
+use t_checks::{holds, same};
 
 /// Each refusal of governance that has no digest: its number, and its values.
 const GOVERNANCE: [(GovernanceRefusal, u16, &[u64]); 20] = [
@@ -288,7 +289,7 @@ fn reports(reason: &Reason, code: u16, values: &[u64]) -> bool {
 fn reports_refusals_of_governance(rt: HostRuntime) -> Result<(), Fail> {
     for (refusal, code, values) in &GOVERNANCE {
         let reason = outcome_of(rt.alloc(), *refusal)?;
-        assert!(rt; reports(&reason, *code, values));
+        holds!(reports(&reason, *code, values));
     }
     Ok(())
 }
@@ -301,7 +302,7 @@ fn reports_causes(rt: HostRuntime) -> Result<(), Fail> {
             cause: *cause,
         };
         let reason = outcome_of(rt.alloc(), refusal)?;
-        assert!(rt; reports(&reason, 48, &[7, number]));
+        holds!(reports(&reason, 48, &[7, number]));
     }
     Ok(())
 }
@@ -310,9 +311,9 @@ fn reports_causes(rt: HostRuntime) -> Result<(), Fail> {
 fn reports_digests(rt: HostRuntime) -> Result<(), Fail> {
     for (refusal, code, digests) in &DIGESTS {
         let reason = outcome_of(rt.alloc(), *refusal)?;
-        assert_eq!(rt; (reason.code, reason.values.len()), (*code, digests.len()));
+        same!((reason.code, reason.values.len()), (*code, digests.len()));
         for (value, digest) in reason.values.as_slice().iter().zip(*digests) {
-            assert_eq!(rt; *value, Value::Digest(*digest));
+            same!(*value, Value::Digest(*digest));
         }
     }
     Ok(())
@@ -322,7 +323,7 @@ fn reports_digests(rt: HostRuntime) -> Result<(), Fail> {
 fn reports_refusals_of_a_ledger(rt: HostRuntime) -> Result<(), Fail> {
     for (refusal, code, values) in &LEDGER {
         let reason = reported(rt.alloc(), NodeRefusal::ByLedger(*refusal))?;
-        assert!(rt; reports(&reason, *code, values));
+        holds!(reports(&reason, *code, values));
     }
     Ok(())
 }
@@ -335,8 +336,8 @@ fn reports_entries_that_break_a_rule(rt: HostRuntime) -> Result<(), Fail> {
             refusal: *refusal,
         });
         let reason = reported(rt.alloc(), NodeRefusal::ByLedger(why))?;
-        assert_eq!(rt; reason.code, *code);
-        assert_eq!(rt; reason.values.as_slice(), *values);
+        same!(reason.code, *code);
+        same!(reason.values.as_slice(), *values);
     }
     Ok(())
 }
@@ -349,13 +350,13 @@ fn leader_bytes(alloc: Global, leader: Option<[u8; 32]>) -> Result<Vec<u8>, Fail
 #[test]
 fn encodes_leaders(rt: HostRuntime) -> Result<(), Fail> {
     let none = leader_bytes(rt.alloc(), None)?;
-    assert_eq!(rt;
+    same!(
         none.as_slice(),
         [7, 0, 0, 0, 0, 0, 0, 0, 0, 0, 0, 0].as_slice()
     );
     let one = leader_bytes(rt.alloc(), Some([9; 32]))?;
-    assert_eq!(rt; one.len(), 44);
-    assert_eq!(rt;
+    assert!(rt; one.len() == 44);
+    same!(
         &one[..13],
         [7, 0, 0, 0, 0, 0, 0, 0, 32, 0, 0, 0, 9].as_slice()
     );

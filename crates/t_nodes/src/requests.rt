@@ -9,6 +9,7 @@ use gl_requests::{
 };
 use std::alloc::Global;
 use std::test::Fail;
+use t_checks::{holds, same};
 
 mod encoded;
 mod faults;
@@ -58,16 +59,14 @@ fn is_member_encoded(
 #[test]
 fn encodes_requests_of_nodes(rt: HostRuntime) -> Result<(), Fail> {
     let alloc = rt.alloc();
-    assert!(rt; is_encoded(alloc, &samples::genesis(alloc)?, &encoded::genesis(alloc)?)?);
-    assert!(rt;
-        is_encoded(
-            alloc,
-            &samples::recovery(alloc)?,
-            &encoded::recovery(alloc)?
-        )?
-    );
-    assert!(rt; is_encoded(alloc, &samples::join(alloc)?, &encoded::join(alloc)?)?);
-    assert!(rt; is_encoded(alloc, &samples::mark(), &encoded::mark(alloc)?)?);
+    holds!(is_encoded(alloc, &samples::genesis(alloc)?, &encoded::genesis(alloc)?)?);
+    holds!(is_encoded(
+        alloc,
+        &samples::recovery(alloc)?,
+        &encoded::recovery(alloc)?,
+    )?);
+    holds!(is_encoded(alloc, &samples::join(alloc)?, &encoded::join(alloc)?)?);
+    holds!(is_encoded(alloc, &samples::mark(), &encoded::mark(alloc)?)?);
     law_of_requests();
     Ok(())
 }
@@ -76,9 +75,9 @@ fn encodes_requests_of_nodes(rt: HostRuntime) -> Result<(), Fail> {
 fn encodes_proposals(rt: HostRuntime) -> Result<(), Fail> {
     let alloc = rt.alloc();
     let (one, all) = (samples::proposal(alloc)?, samples::all_actions(alloc)?);
-    assert_eq!(rt; all.proposal_id(alloc)?, PROPOSAL);
-    assert!(rt; is_member_encoded(alloc, one, &encoded::proposal(alloc)?)?);
-    assert!(rt; is_member_encoded(alloc, all, &encoded::all_actions(alloc)?)?);
+    same!(all.proposal_id(alloc)?, PROPOSAL);
+    holds!(is_member_encoded(alloc, one, &encoded::proposal(alloc)?)?);
+    holds!(is_member_encoded(alloc, all, &encoded::all_actions(alloc)?)?);
     Ok(())
 }
 
@@ -87,29 +86,29 @@ fn encodes_requests_of_members(rt: HostRuntime) -> Result<(), Fail> {
     let alloc = rt.alloc();
     let ballot = samples::ballot(alloc)?;
     let signed = ballot.signed_bytes(alloc, &[9; 60])?;
-    assert!(rt; signed.as_slice() == encoded::signed_ballot(alloc)?.as_slice());
-    assert!(rt; is_member_encoded(alloc, ballot, &encoded::ballot(alloc)?)?);
-    assert!(rt; is_member_encoded(alloc, samples::ack(alloc)?, &encoded::ack(alloc)?)?);
+    holds!(signed.as_slice() == encoded::signed_ballot(alloc)?.as_slice());
+    holds!(is_member_encoded(alloc, ballot, &encoded::ballot(alloc)?)?);
+    holds!(is_member_encoded(alloc, samples::ack(alloc)?, &encoded::ack(alloc)?)?);
     let withdrawal = samples::withdrawal(alloc)?;
-    assert!(rt; is_member_encoded(alloc, withdrawal, &encoded::withdrawal(alloc)?)?);
-    assert!(rt; is_member_encoded(alloc, samples::share(alloc)?, &encoded::share(alloc)?)?);
+    holds!(is_member_encoded(alloc, withdrawal, &encoded::withdrawal(alloc)?)?);
+    holds!(is_member_encoded(alloc, samples::share(alloc)?, &encoded::share(alloc)?)?);
     Ok(())
 }
 
 #[test]
 fn encodes_the_parts_of_rows(rt: HostRuntime) -> Result<(), Fail> {
     let alloc = rt.alloc();
-    assert_eq!(rt; samples::node(alloc)?.id(), NODE);
+    same!(samples::node(alloc)?.id(), NODE);
     let actions = actions_bytes(alloc, samples::actions(alloc)?.as_slice())?;
-    assert!(rt; actions.as_slice() == encoded::actions(alloc)?.as_slice());
+    holds!(actions.as_slice() == encoded::actions(alloc)?.as_slice());
     let dealing = samples::dealing(alloc)?.bytes(alloc)?;
-    assert!(rt; dealing.as_slice() == encoded::dealing(alloc)?.as_slice());
+    holds!(dealing.as_slice() == encoded::dealing(alloc)?.as_slice());
     let rule = Rule {
         num: 513,
         den: 1027,
     };
-    assert!(rt; rule.bytes(alloc)?.as_slice() == [1, 2, 3, 4].as_slice());
-    assert_eq!(rt; ServiceState::WaitingForRecoveryShares.byte(), 3);
-    assert_eq!(rt; Action::RemoveNode([13; 32]).number(), 5);
+    holds!(rule.bytes(alloc)?.as_slice() == [1, 2, 3, 4].as_slice());
+    same!(ServiceState::WaitingForRecoveryShares.byte(), 3);
+    same!(Action::RemoveNode([13; 32]).number(), 5);
     Ok(())
 }

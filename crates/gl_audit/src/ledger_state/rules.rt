@@ -9,7 +9,7 @@ ghost use Rattle.gl_vmaps.specs.Tables.{same_value};
 ghost use Rattle.gl_requests.specs.Ranges.{is_request};
 ghost use Rattle.gl_ledger.specs.Recordings.{is_founding, is_recovering, is_signing};
 ghost use Rattle.gl_ledger.specs.Broken as rules;
-ghost use Rattle.gl_audit.specs.Kept.{ForLedgers, IsState};
+ghost use Rattle.gl_audit.specs.Kept.{ForStates, IsState};
 ghost use Rattle.gl_base.specs.TxId.{last_seqno};
 ghost use Rattle.gl_ledger.specs.declared.breach.Broken as breaches;
 
@@ -139,21 +139,19 @@ fn broken_of_run(
 }
 
 impl LedgerState {
-    ghost use Rattle.gl_merkle.specs.Tree.{root_of};
     ghost use Rattle.gl_rules.specs.Identity.{NodeId, member};
-    ghost use Rattle.gl_ledger.specs.Tree.{leaves_of};
-    ghost use Rattle.gl_ledger.specs.Recordings.{last_entry, recording_of, recorded_nodes, mark, removal};
-    ghost use Rattle.gl_ledger.specs.Broken.{broken, broken_where, broken_by, broken_by_signature, broken_by_governance, broken_by_application, broken_by_evidence, broken_by_fault, fault_of_signature, breach, is_next_view, is_in_order, is_above_removal, may_record};
+    ghost use Rattle.gl_ledger.specs.Recordings.{recording_of};
+    ghost use Rattle.gl_ledger.specs.Broken.{broken_over, broken_where, broken_by, broken_by_signature, broken_by_governance, broken_by_application, broken_by_evidence, broken_by_fault, fault_of_signature, breach, is_next_view, is_in_order, is_above_removal, may_record};
     ghost use Rattle.gl_ledger.specs.NodeKeys.{service_layers};
-    ghost use Rattle.gl_ledger.specs.Past.{last_signed, past_of, signs_at};
+    ghost use Rattle.gl_ledger.specs.Past.{is_signed, past_over};
 
     /// The first rule of the audit that an entry breaks after the ledger, if it breaks one. Fails
     /// only where memory runs out.
     pub fn broken(&mut self, entry: &Entry) -> Result<Option<Broken>, AllocError>
         requires state { IsState self.old }
         requires named { self.old.end.len ≤ last_seqno }
-        ensures broken { IfOk result (λ found. ForLedgers self.old (λ ledger.
-            found ≡ broken service_layers ledger entry.now)) }
+        ensures broken { IfOk result (λ found. ForStates self.old (λ body es.
+            found ≡ broken_over service_layers body es entry.now)) }
         ensures kept { self.new ≡ self.old }
     {
         match recording_of(self.alloc, &entry.content)? {
@@ -164,8 +162,8 @@ impl LedgerState {
 
     /// Whether a node is recorded.
     fn is_recorded(&self, node: &NodeId) -> bool
-        ensures { ForLedgers self.now (λ ledger.
-            result ≡ member node.now (recorded_nodes ledger)) }
+        ensures { ForStates self.now (λ body es.
+            result ≡ member node.now (past_over body es).nodes) }
     {
         self.gov.history().node(node).is_some()
     }
@@ -174,7 +172,7 @@ impl LedgerState {
     /// it opens the service, or else the seqno of a signature that isn't below the commit that the
     /// last one recorded, nor below the removal of a node that was marked after that one.
     pub fn may_record(&self, commit: u64) -> bool
-        ensures { ForLedgers self.now (λ ledger. result ≡ may_record (past_of ledger) commit) }
+        ensures { ForStates self.now (λ body es. result ≡ may_record (past_over body es) commit) }
     {
         if self.end.is_unopened {
             follows(commit, self.end.len)
@@ -186,9 +184,9 @@ impl LedgerState {
     /// Whether the commit isn't below the removal of a node that was marked after the last
     /// signature.
     fn is_above_removals(&self, commit: u64) -> bool
-        ensures { ForLedgers self.now (λ ledger.
-            result ≡ list_all (λ (y : NodeId). is_above_removal (mark ledger y)
-            (removal ledger y) (last_signed ledger) commit) (recorded_nodes ledger)) }
+        ensures { ForStates self.now (λ body es.
+            let p = past_over body es in result ≡ list_all (λ (y : NodeId).
+            is_above_removal (p.mark y) (p.removal y) p.last_signed commit) p.nodes) }
     {
         are_above_removals(self.gov.history(), self.last_signed(), commit)
     }
@@ -203,7 +201,7 @@ impl LedgerState {
 
     /// Whether the last entry is a signature.
     pub fn is_signed(&self) -> bool
-        ensures { ForLedgers self.now (λ ledger. result ≡ signs_at (last_entry ledger)) }
+        ensures { ForStates self.now (λ body es. result ≡ is_signed (past_over body es).last) }
     {
         self.signs_at(self.end.len)
     }
@@ -224,8 +222,8 @@ impl LedgerState {
         requires state { IsState self.old }
         requires named { self.old.end.len ≤ last_seqno }
         requires recorded { recording_of entry.now.content ≡ Some recording.now }
-        ensures broken { IfOk result (λ broken. ForLedgers self.old (λ ledger. broken
-            ≡ broken_where service_layers (Some recording.now) (past_of ledger) entry.now)) }
+        ensures broken { IfOk result (λ broken. ForStates self.old (λ body es. broken
+            ≡ broken_where service_layers (Some recording.now) (past_over body es) entry.now)) }
         ensures kept { self.new ≡ self.old }
     {
         if let Some(rule) = self.out_of_form(recording, entry) {
@@ -244,12 +242,12 @@ impl LedgerState {
         requires named { self.old.end.len ≤ last_seqno }
         requires recorded { recording_of entry.now.content ≡ Some recording.now }
         requires fits { is_entry entry.now ≡ true }
-        requires view { ForLedgers self.old (λ ledger.
-            is_next_view (past_of ledger).last recording.now entry.now.view ≡ true) }
-        requires order { ForLedgers self.old (λ ledger.
-            is_in_order (past_of ledger).last recording.now entry.now.view ≡ true) }
-        ensures broken { IfOk result (λ broken. ForLedgers self.old (λ ledger.
-            broken ≡ broken_by service_layers recording.now (past_of ledger) entry.now)) }
+        requires view { ForStates self.old (λ body es.
+            is_next_view (past_over body es).last recording.now entry.now.view ≡ true) }
+        requires order { ForStates self.old (λ body es.
+            is_in_order (past_over body es).last recording.now entry.now.view ≡ true) }
+        ensures broken { IfOk result (λ broken. ForStates self.old (λ body es.
+            broken ≡ broken_by service_layers recording.now (past_over body es) entry.now)) }
         ensures kept { self.new ≡ self.old }
     {
         match recording {
@@ -263,17 +261,17 @@ impl LedgerState {
     /// Rules 1 to 4: the first of them that the entry breaks.
     fn out_of_form(&self, recording: &Recording, entry: &Entry) -> Option<u8>
         requires named { self.now.end.len ≤ last_seqno }
-        ensures some { IfSome result (λ rule. ForLedgers self.now (λ ledger.
-            broken_where service_layers (Some recording.now) (past_of ledger) entry.now
+        ensures some { IfSome result (λ rule. ForStates self.now (λ body es.
+            broken_where service_layers (Some recording.now) (past_over body es) entry.now
             ≡ Some (breach rule (self.now.end.len + 1) entry.now))) }
-        ensures none { IfNone result (ForLedgers self.now (λ ledger.
-            broken_where service_layers (Some recording.now) (past_of ledger) entry.now
-            ≡ broken_by service_layers recording.now (past_of ledger) entry.now)) }
+        ensures none { IfNone result (ForStates self.now (λ body es.
+            broken_where service_layers (Some recording.now) (past_over body es) entry.now
+            ≡ broken_by service_layers recording.now (past_over body es) entry.now)) }
         ensures fits { IfNone result (is_entry entry.now ≡ true) }
-        ensures view { IfNone result (ForLedgers self.now (λ ledger.
-            is_next_view (past_of ledger).last recording.now entry.now.view ≡ true)) }
-        ensures order { IfNone result (ForLedgers self.now (λ ledger.
-            is_in_order (past_of ledger).last recording.now entry.now.view ≡ true)) }
+        ensures view { IfNone result (ForStates self.now (λ body es.
+            is_next_view (past_over body es).last recording.now entry.now.view ≡ true)) }
+        ensures order { IfNone result (ForStates self.now (λ body es.
+            is_in_order (past_over body es).last recording.now entry.now.view ≡ true)) }
     {
         let seqno = self.next_seqno();
         if !entry.fits() {
@@ -295,8 +293,8 @@ impl LedgerState {
     }
 
     fn is_next_view(&self, recording: &Recording, view: u32) -> bool
-        ensures { ForLedgers self.now (λ ledger.
-            result ≡ is_next_view (past_of ledger).last recording.now view) }
+        ensures { ForStates self.now (λ body es.
+            result ≡ is_next_view (past_over body es).last recording.now view) }
     {
         match self.end.last {
             None => is_founding(recording) && view == FIRST_VIEW,
@@ -308,8 +306,8 @@ impl LedgerState {
     }
 
     fn is_in_order(&self, recording: &Recording, view: u32) -> bool
-        ensures { ForLedgers self.now (λ ledger.
-            result ≡ is_in_order (past_of ledger).last recording.now view) }
+        ensures { ForStates self.now (λ body es.
+            result ≡ is_in_order (past_over body es).last recording.now view) }
     {
         match self.end.last {
             None => true,
@@ -329,8 +327,8 @@ impl LedgerState {
         entry: &Entry,
     ) -> Result<Option<Broken>, AllocError>
         requires named { self.now.end.len ≤ last_seqno }
-        ensures { IfOk result (λ broken. ForLedgers self.now (λ ledger.
-            broken ≡ broken_by_application request.now (past_of ledger) entry.now)) }
+        ensures { IfOk result (λ broken. ForStates self.now (λ body es.
+            broken ≡ broken_by_application request.now (past_over body es) entry.now)) }
     {
         let state = self.service_state;
         if state != ServiceState::Open {
@@ -358,13 +356,13 @@ impl LedgerState {
     ) -> Result<Option<Broken>, AllocError>
         requires state { IsState self.old }
         requires named { self.old.end.len ≤ last_seqno }
-        requires view { ForLedgers self.old (λ ledger. is_next_view (past_of ledger).last
+        requires view { ForStates self.old (λ body es. is_next_view (past_over body es).last
             (Recording.Governance request.now) entry.now.view ≡ true) }
-        requires order { ForLedgers self.old (λ ledger. is_in_order (past_of ledger).last
+        requires order { ForStates self.old (λ body es. is_in_order (past_over body es).last
             (Recording.Governance request.now) entry.now.view ≡ true) }
         requires fits { is_request request.now ≡ true }
-        ensures broken { IfOk result (λ broken. ForLedgers self.old (λ ledger.
-            broken ≡ broken_by_governance request.now (past_of ledger) entry.now)) }
+        ensures broken { IfOk result (λ broken. ForStates self.old (λ body es.
+            broken ≡ broken_by_governance request.now (past_over body es) entry.now)) }
         ensures kept { self.new ≡ self.old }
     {
         let seqno = self.next_seqno();
@@ -387,8 +385,8 @@ impl LedgerState {
     ) -> Result<Option<Broken>, AllocError>
         requires state { IsState self.now }
         requires named { self.now.end.len ≤ last_seqno }
-        ensures { IfOk result (λ broken. ForLedgers self.now (λ ledger.
-            broken ≡ broken_by_evidence digest.now (past_of ledger) entry.now)) }
+        ensures { IfOk result (λ broken. ForStates self.now (λ body es.
+            broken ≡ broken_by_evidence digest.now (past_over body es) entry.now)) }
     {
         if !self.is_signed() {
             return Ok(Some(self.breach(12, entry)));
@@ -408,7 +406,7 @@ impl LedgerState {
     pub fn root(&self) -> Digest
         requires state { IsState self.now }
         requires some { 0 < self.now.end.len }
-        ensures { ForLedgers self.now (λ ledger. result ≡ root_of (leaves_of ledger)) }
+        ensures { ForStates self.now (λ body es. result ≡ (past_over body es).root) }
     {
         self.frontier.root()
     }
@@ -419,8 +417,8 @@ impl LedgerState {
         requires state { IsState self.now }
         requires named { self.now.end.len ≤ last_seqno }
         requires some { 0 < self.now.end.len }
-        ensures { ForLedgers self.now (λ ledger. result
-            ≡ broken_by_signature service_layers signature.now (past_of ledger) entry.now) }
+        ensures { ForStates self.now (λ body es. result
+            ≡ broken_by_signature service_layers signature.now (past_over body es) entry.now) }
     {
         if !self.is_recorded(&signature.node) {
             return Some(self.breach(9, entry));
@@ -439,8 +437,9 @@ impl LedgerState {
         requires state { IsState self.now }
         requires named { self.now.end.len ≤ last_seqno }
         requires some { 0 < self.now.end.len }
-        ensures { ForLedgers self.now (λ ledger. result ≡ broken_by_fault (length ledger + 1)
-            (fault_of_signature service_layers (past_of ledger) entry.now signature.now)) }
+        ensures { ForStates self.now (λ body es. result
+            ≡ broken_by_fault ((past_over body es).len + 1)
+            (fault_of_signature service_layers (past_over body es) entry.now signature.now)) }
     {
         let Some(identity) = &self.identity else {
             unreachable!();

@@ -4,7 +4,7 @@ ghost use Rattle.std.specs.Prelude.{◌≡◌, ◌-◌, ◌≤◌, length, nat_l
 ghost use Rattle.std.specs.List.Sorted.{IsPartitionPoint, IsPartitionedBy};
 ghost use Rattle.std.specs.Option.{unwrap_or};
 ghost use Rattle.gl_rules.specs.Log.{entry_at};
-ghost use Rattle.gl_audit.specs.Kept.{ForLedgers};
+ghost use Rattle.gl_audit.specs.Kept.{ForStates};
 
 use super::LedgerState;
 
@@ -40,28 +40,32 @@ fn last_or_zero(seqnos: &[u64]) -> u64
 }
 
 impl LedgerState {
-    ghost use Rattle.gl_ledger.specs.Past.{last_signed, signs_at};
+    ghost use Rattle.gl_ledger.specs.Past.{past_over};
 
     /// The seqno of the last signature, 0 where there is none.
     pub fn last_signed(&self) -> u64
-        ensures { ForLedgers self.now (λ ledger. result ≡ last_signed ledger) }
+        ensures { ForStates self.now (λ body es.
+            result ≡ (past_over body es).last_signed) }
     {
         last_or_zero(&self.signatures)
     }
 
-    /// The seqno of the last signature up to a seqno, 0 where there is none.
+    /// The seqno of the last signature up to a seqno, which is not below the base; 0 where there is
+    /// none.
     pub fn last_signed_up_to(&self, to: u64) -> u64
-        ensures { ForLedgers self.now (λ ledger. result ≡ last_signed (take to ledger)) }
+        ensures { ForStates self.now (λ body es. body.base ≤ to →
+            result ≡ (past_over body (take (to - body.base) es)).last_signed) }
     {
         let count = count_up_to(&self.signatures, to);
         let (prefix, _) = self.signatures.split_at(count);
         last_or_zero(prefix)
     }
 
-    /// Whether the entry with a seqno is a signature.
+    /// Whether the entry with a seqno is a signature; each one up to the base counts as one.
     pub(crate) fn signs_at(&self, seqno: u64) -> bool
-        ensures { ForLedgers self.now (λ ledger. result ≡ signs_at (entry_at ledger seqno)) }
+        ensures { ForStates self.now (λ body es.
+            result ≡ (past_over body es).signs_at seqno) }
     {
-        seqno != 0 && self.last_signed_up_to(seqno) == seqno
+        seqno != 0 && (seqno <= self.base || self.last_signed_up_to(seqno) == seqno)
     }
 }

@@ -8,7 +8,6 @@ ghost use Rattle.gl_gov_rules.specs.Governed.{is_founding, is_recovery};
 ghost use Rattle.gl_audit.specs.GovState as steps;
 
 use super::Store;
-use crate::entries::{governance_entry, governance_limit_passed};
 use gl_audit::GovernanceEffect;
 use gl_base::{FIRST_VIEW, OrNoMemory, TxId};
 use gl_entry::Entry;
@@ -60,7 +59,7 @@ impl Store {
             Refuses (govern_result self.old.ledger view request.now) e) }
         ensures err { OnErr result (self.new ≡ self.old) }
     {
-        let seqno = self.entries.len() as u64 + 1;
+        let seqno = self.next_seqno();
         let (entry, effect) = self.entry_of_governance(view, request)?;
         self.push(entry)?;
         Ok((TxId { view, seqno }, effect))
@@ -97,55 +96,32 @@ impl Store {
             Refuses (govern_result self.old.ledger view request.now) e) }
         ensures kept { self.new ≡ self.old }
     {
-        let seqno = self.next_seqno();
-        let (entry, effect) = match self.governance_entry(view, request) {
-            Ok(made) => made,
-            Err(OrNoMemory::NoMemory) => return Err(OrNoMemory::NoMemory),
-            Err(OrNoMemory::Fault(why)) => {
-                return Err(OrNoMemory::Fault(Refusal::Governance(why)));
-            }
-        };
-        if let Some(refusal) = governance_limit_passed(entry.body_len(), seqno) {
-            return Err(OrNoMemory::Fault(refusal));
-        }
-        Ok((entry, effect))
+        self.tail.entry_of_governance(view, request)
     }
 
-    /// The entry of a request of governance after the ledger, and what the request does. Refused
+    /// The entry of a request of governance after the ledger. The ledger stays without it. Refused
     /// where the rules of governance refuse it.
     pub(super) fn governance_entry(
         &mut self,
         view: u32,
         request: &GovernanceRequest,
-    ) -> Result<(Entry, GovernanceEffect), OrNoMemory<GovernanceRefusal>>
+    ) -> Result<Entry, OrNoMemory<GovernanceRefusal>>
         requires founding { is_founding request.now ≡ (length self.old.ledger == 0) }
         requires fits { is_request request.now ≡ true }
         ensures accepted { OnOk result (refusal (history (requests_of self.old.ledger))
             (length self.old.ledger + 1) request.now ≡ None) }
-        ensures made { IfOk result (λ made.
-            made.0 ≡ governance_entry request.now self.old.ledger view) }
-        ensures recorded { IfOk result (λ made. length (content_bytes made.0.content) < 2 ^ 32) }
-        ensures written { IfOk result (λ made. length made.0.writes < 2 ^ 32) }
-        ensures entry { IfOk result (λ made.
-            length (body_bytes made.0) ≤ body_limit → is_entry made.0 ≡ true) }
-        ensures writes { IfOk result (λ made. made.1.writes
-            ≡ effect_writes (requests_of self.old.ledger)
-            (record { seqno = length self.old.ledger + 1; request = request.now })) }
-        ensures proposal { IfOk result (λ made. made.1.proposal ≡ proposal_status
-            (history (requests_of (self.old.ledger ++ made.0 ∷ []))) request.now) }
-        ensures status { IfOk result (λ made.
-            made.1.proposal ≡ status_after self.old.ledger request.now) }
-        ensures shares { IfOk result (λ made. made.1.shares
-            ≡ share_count (history (requests_of (self.old.ledger ++ made.0 ∷ [])))) }
+        ensures made { IfOk result (λ entry.
+            entry ≡ governance_entry request.now self.old.ledger view) }
+        ensures recorded { IfOk result (λ entry. length (content_bytes entry.content) < 2 ^ 32) }
+        ensures written { IfOk result (λ entry. length entry.writes < 2 ^ 32) }
+        ensures entry { IfOk result (λ entry.
+            length (body_bytes entry) ≤ body_limit → is_entry entry ≡ true) }
         ensures refused { IfErr result (λ e. steps.Refuses (refusal
             (history (requests_of self.old.ledger)) (length self.old.ledger + 1) request.now) e) }
         ensures kept { self.new ≡ self.old }
     {
-        let seqno = self.next_seqno();
-        let effect = self.state.gov.effect(seqno, request)?;
-        let writes = effect.writes.copy(self.alloc)?;
-        let entry = governance_entry(self.alloc, view, seqno, request, writes)?;
-        Ok((entry, effect))
+        let (entry, _) = self.tail.governance_entry(view, request)?;
+        Ok(entry)
     }
 
     /// The entry of a genesis in a store of no entries.
@@ -159,7 +135,7 @@ impl Store {
     {
         let request = GovernanceRequest::Genesis(genesis);
         match self.governance_entry(FIRST_VIEW, &request) {
-            Ok((entry, _)) => Ok(entry),
+            Ok(entry) => Ok(entry),
             Err(OrNoMemory::NoMemory) => Err(AllocError),
             Err(OrNoMemory::Fault(_)) => unreachable!(),
         }

@@ -98,7 +98,7 @@ impl Store {
         };
         let request = GovernanceRequest::Recover(recovery);
         let entry = match self.governance_entry(view, &request) {
-            Ok((entry, _)) => entry,
+            Ok(entry) => entry,
             Err(OrNoMemory::NoMemory) => return Err(OrNoMemory::NoMemory),
             Err(OrNoMemory::Fault(why)) => {
                 return Err(OrNoMemory::Fault(Refusal::Governance(why)));

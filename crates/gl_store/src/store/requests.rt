@@ -1,21 +1,16 @@
 //! What a store makes of requests.
 
-ghost use Rattle.std.specs.Prelude.{◌≡◌, ◌+◌, ◌<◌, true, false, length, Ok, IfOk, IfErr, OnErr};
-ghost use Rattle.gl_tx.specs.Request.{is_request};
+ghost use Rattle.std.specs.Prelude.{◌≡◌, ◌<◌, true, false, length, Ok, IfOk, IfErr, OnErr};
 ghost use Rattle.gl_entry.specs.Entry.{is_entry};
 
 use super::Store;
-use crate::entries::{application_entry, limit_passed};
 use gl_base::{OrNoMemory, TxId};
 use gl_entry::Entry;
 use gl_ledger::Refusal;
-use gl_requests::ServiceState;
-use gl_tx::{Reply, Request, run};
+use gl_tx::{Reply, Request};
 
 impl Store {
     ghost use Rattle.gl_ledger.specs.Ledger.{HasViewsUpTo};
-    ghost use Rattle.gl_ledger.specs.Tree.{tables_of};
-    ghost use Rattle.gl_ledger.specs.ServiceRow.{service_state};
     ghost use Rattle.gl_ledger.specs.Recordings.{last_entry};
     ghost use Rattle.gl_ledger.specs.declared.response.Response.TheVariants.{Replied};
     ghost use Rattle.gl_ledger.specs.Makers.{request_result};
@@ -40,7 +35,7 @@ impl Store {
             Refuses (request_result self.old.ledger view request.now) e) }
         ensures err { OnErr result (self.new ≡ self.old) }
     {
-        let seqno = self.entries.len() as u64 + 1;
+        let seqno = self.next_seqno();
         let (entry, reply) = self.entry_of_request(view, request)?;
         self.push(entry)?;
         Ok((TxId { view, seqno }, reply))
@@ -59,37 +54,6 @@ impl Store {
         ensures refused { IfErr result (λ e.
             Refuses (request_result self.now.ledger view request.now) e) }
     {
-        prove!(request.as_slice().len() <= 64);
-        match self.state.service_state {
-            ServiceState::Open => self.entry_of_run(view, request),
-            state => Err(OrNoMemory::Fault(Refusal::ServiceState(state))),
-        }
-    }
-
-    /// The same in a service that is open.
-    fn entry_of_run(
-        &self,
-        view: u32,
-        request: &Request,
-    ) -> Result<(Entry, Reply), OrNoMemory<Refusal>>
-        requires is_open { service_state (tables_of self.now.ledger) ≡ ServiceState.Open }
-        requires encoded { is_request request.now ≡ true }
-        ensures made { IfOk result (λ made.
-            request_result self.now.ledger view request.now ≡ Ok (made.0, Replied made.1)) }
-        ensures fits { IfOk result (λ made. is_entry made.0 ≡ true) }
-        ensures refused { IfErr result (λ e.
-            Refuses (request_result self.now.ledger view request.now) e) }
-    {
-        let seqno = self.next_seqno();
-        let ran = match run(self.alloc, request, &self.state.tables) {
-            Ok(ran) => ran,
-            Err(error) => return Err(error.widen()),
-        };
-        let reply = ran.reply.encode(self.alloc)?;
-        let entry = application_entry(self.alloc, view, seqno, request, ran.writes, &reply)?;
-        if let Some(refusal) = limit_passed(entry.body_len(), &reply, seqno) {
-            return Err(OrNoMemory::Fault(refusal));
-        }
-        Ok((entry, ran.reply))
+        self.tail.entry_of_request(view, request)
     }
 }

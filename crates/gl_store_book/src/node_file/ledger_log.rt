@@ -10,11 +10,11 @@ ghost use Rattle.gl_store_book.specs.Frames.{entry_of_frame, frames_of, goes_on_
 use crate::book_ledger::BookLedger;
 use gl_base::OrNoMemory;
 use gl_entry::Entry;
-use gl_journal::EntryLog;
+use gl_journal::{EntryLog, Installed};
 use std::alloc::{AllocError, Global};
 
 /// A valid ledger: each of its entries breaks no rule of the audit after those before it. It takes
-/// no memory before its first entry.
+/// no snapshot yet, and no memory before its first entry.
 #[derive(Drop)]
 pub struct LedgerLog {
     ledger: Option<BookLedger>,
@@ -72,6 +72,8 @@ fn try_apply(ledger: &mut BookLedger, entry: Entry) -> Result<bool, AllocError>
 impl EntryLog for LedgerLog {
     ghost goes_on = { goes_on_ledger };
 
+    ghost snapshot = { λ _. None };
+
     ghost frames = { λ log. frames_of log.ledger };
 
     fn new(_alloc: Global) -> Self {
@@ -107,5 +109,9 @@ impl EntryLog for LedgerLog {
         if let Some(ledger) = &mut self.ledger {
             ledger.cut(len);
         }
+    }
+
+    fn install(&mut self, _alloc: Global, _body: &[u8]) -> Result<Option<Installed>, AllocError> {
+        Ok(None)
     }
 }

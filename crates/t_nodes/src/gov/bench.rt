@@ -1,8 +1,10 @@
 //! A service whose requests are made byte by byte, and what comes of each.
 
-ghost use Rattle.std.specs.Prelude.{◌≡◌, ◌≤◌, true, IfOk};
+ghost use Rattle.std.specs.Prelude.{◌≡◌, ◌≤◌, true, is_none, IfOk};
 ghost use Rattle.gl_requests.specs.Ranges.{is_request};
-ghost use Rattle.gl_gov_rules.specs.Governed.{IsAbove, is_founding, is_nothing};
+ghost use Rattle.gl_gov_rules.specs.Governed.{is_founding};
+ghost use Rattle.gl_gov_base.specs.GovernedOver.{is_unfounded};
+ghost use Rattle.gl_audit.specs.GovState.{IsLater};
 
 use gl_audit::{GovState, is_founding};
 use gl_base::OrNoMemory;
@@ -12,8 +14,8 @@ use gl_recovery::{FinishFault, finish};
 use gl_requests::GovernanceRequest;
 use sha2::{Digest, Sha256};
 use std::alloc::{AllocError, Global};
-use std::process::Abort;
 use std::test::Fail;
+use t_checks::same;
 
 /// What came of a request.
 #[derive(Clone, Copy, Debug, PartialEq, Eq)]
@@ -97,10 +99,10 @@ pub enum Ask<'a> {
 pub type Row<'a> = (Ask<'a>, Outcome);
 
 /// Asks for one thing after the other, and compares what comes of each.
-pub fn play(rt: &impl Abort, bench: &mut Bench, rows: &[Row<'_>]) -> Result<(), Fail> {
+pub fn play(bench: &mut Bench, rows: &[Row<'_>]) -> Result<(), Fail> {
     for (place, (ask, due)) in rows.iter().enumerate() {
         let reported = bench.ask(*ask)?;
-        assert_eq!(rt; reported, *due, "row {place}");
+        same!(reported, *due, place);
     }
     Ok(())
 }
@@ -176,7 +178,7 @@ fn rows_of(alloc: Global, state: &GovState) -> Result<Outcome, Fail> {
 
 // The seqno of the next request: there is a signature at 2.
 fn next_seqno(state: &GovState) -> Result<u64, Fail>
-    ensures { IfOk result (λ seqno. IsAbove seqno state.now) }
+    ensures { IfOk result (λ seqno. IsLater seqno state.now) }
 {
     let last = state.last_seqno();
     let next = last.checked_add(1).ok_or("no seqno is left")?;
@@ -193,8 +195,9 @@ fn record(
     seqno: u64,
     request: &GovernanceRequest,
 ) -> Result<Outcome, Fail>
-    requires above { IsAbove seqno state.now }
-    requires founding { is_founding request.now ≡ is_nothing state.now }
+    requires above { IsLater seqno state.now }
+    requires founding { is_founding request.now
+        ≡ is_unfounded state.now.base state.now.requests }
     requires fits { is_request request.now ≡ true }
 {
     let mut copy = state.copy()?;
@@ -208,19 +211,36 @@ fn record(
     }
 }
 
+// What comes of the request in the state itself.
+fn reported(
+    alloc: Global,
+    state: &mut GovState,
+    seqno: u64,
+    request: &GovernanceRequest,
+) -> Result<Outcome, Fail>
+    requires above { IsLater seqno state.old }
+    requires founding { is_founding request.now
+        ≡ is_unfounded state.old.base state.old.requests }
+    requires fits { is_request request.now ≡ true }
+    ensures { state.new.base ≡ state.old.base }
+{
+    match state.step(seqno, request) {
+        Ok(_) => rows_of(alloc, state),
+        Err(OrNoMemory::Fault(why)) => Ok(outcome_of(why)),
+        Err(OrNoMemory::NoMemory) => Err(Fail::from("out of memory")),
+    }
+}
+
 fn step(alloc: Global, state: &mut GovState, request: &GovernanceRequest) -> Result<Outcome, Fail>
     requires { is_request request.now ≡ true }
+    ensures { state.new.base ≡ state.old.base }
 {
     let seqno = next_seqno(state)?;
     if is_founding(request) == state.is_founded() {
         return Err(Fail::from("another request than a genesis at first, or one later"));
     }
     let known = record(alloc, state, seqno, request)?;
-    let reported = match state.step(seqno, request) {
-        Ok(_) => rows_of(alloc, state)?,
-        Err(OrNoMemory::Fault(why)) => outcome_of(why),
-        Err(OrNoMemory::NoMemory) => return Err(Fail::from("out of memory")),
-    };
+    let reported = reported(alloc, state, seqno, request)?;
     if reported != known {
         return Err(Fail::from("a record differs from a step"));
     }
@@ -258,6 +278,8 @@ pub struct Bench {
     /// The number of the service's key.
     service: u8,
     last: Vec<u8>,
+    /// The service stands on no base, so that it can be cut to any seqno.
+    ghost unbased: { is_none state.base ≡ true },
 }
 
 impl Bench {
@@ -373,6 +395,11 @@ impl Bench {
         let request = GovernanceRequest::decode(self.alloc, &bytes)?;
         self.last = bytes;
         step(self.alloc, &mut self.state, &request)
+    }
+
+    /// Takes back the requests above a seqno.
+    pub fn cut(&mut self, to: u64) {
+        self.state.cut(to);
     }
 
     // Takes the last request once more.

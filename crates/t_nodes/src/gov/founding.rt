@@ -4,8 +4,8 @@ use super::bench::Ask::{Ack, AckBy, Again, Found, FoundBy, Propose};
 use super::bench::Outcome::{Bad, Refused, Rows};
 use super::bench::{Act, Bench, Outcome, Row, play};
 use gl_gov_rules::{Cause, GovernanceRefusal};
-use std::process::Abort;
 use std::test::Fail;
+use t_checks::{holds, same};
 
 /// Foundings with something wrong, and one that is taken.
 pub const FOUND: [Row<'static>; 5] = [
@@ -68,9 +68,9 @@ const WRONG: [Row<'static>; 6] = [
 #[test]
 fn reports_what_is_wrong_with_a_founding(rt: HostRuntime) -> Result<(), Fail> {
     let mut bench = Bench::new(rt.alloc(), 2, 2, 2)?;
-    play(&rt, &mut bench, &WRONG)?;
+    play(&mut bench, &WRONG)?;
     let reported = bench.ask(Found(&[1, 2], &[1, 2], (1, &[1])))?;
-    assert!(rt; matches!(reported, Rows(_)));
+    holds!(matches!(reported, Rows(_)));
     Ok(())
 }
 
@@ -83,11 +83,10 @@ fn found_with(bench: &mut Bench, count: u8) -> Result<Outcome, Fail> {
 #[test]
 fn counts_64_members(rt: HostRuntime) -> Result<(), Fail> {
     let mut bench = Bench::new(rt.alloc(), 1, 1, 1)?;
-    assert_eq!(rt; found_with(&mut bench, 65)?, Bad(0, Cause::Full));
-    assert!(rt; matches!(found_with(&mut bench, 64)?, Rows(_)));
-    assert!(rt; matches!(bench.ask(Ack(1))?, Rows(_)));
+    same!(found_with(&mut bench, 65)?, Bad(0, Cause::Full));
+    holds!(matches!(found_with(&mut bench, 64)?, Rows(_)));
+    holds!(matches!(bench.ask(Ack(1))?, Rows(_)));
     play(
-        &rt,
         &mut bench,
         &[(Propose(1, &[Act::SetMember(65, 65)]), Bad(1, Cause::Full))],
     )

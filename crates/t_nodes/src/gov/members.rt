@@ -6,8 +6,8 @@ use super::bench::Outcome::{Bad, Refused, Rows};
 use super::bench::{Act, Bench, Outcome, Row, play};
 use super::founding;
 use gl_gov_rules::{Cause, GovernanceRefusal, ProposalState};
-use std::process::Abort;
 use std::test::Fail;
+use t_checks::same;
 
 /// Proposals with a bad action.
 pub const BAD: [Row<'static>; 9] = [
@@ -103,13 +103,13 @@ pub const REMOVE_MEMBER: [Row<'static>; 8] = [
 fn cuts_and_copies(rt: HostRuntime) -> Result<(), Fail> {
     let mut bench = Bench::new(rt.alloc(), 1, 6, 3)?;
     for rows in [&founding::FOUND[..], &founding::ACKNOWLEDGE, &BAD, &OPEN] {
-        play(&rt, &mut bench, rows)?;
+        play(&mut bench, rows)?;
     }
     let copy = bench.state.copy()?;
-    bench.state.cut(10);
-    assert_eq!(rt; bench.rows()?, Rows(0x9cdca297c7ccf0c0));
-    assert_eq!(rt; bench.ask(Again)?, ACCEPTED);
+    bench.cut(10);
+    same!(bench.rows()?, Rows(0x9cdca297c7ccf0c0));
+    same!(bench.ask(Again)?, ACCEPTED);
     bench.state = copy;
-    assert_eq!(rt; bench.rows()?, ACCEPTED);
+    same!(bench.rows()?, ACCEPTED);
     Ok(())
 }

@@ -9,8 +9,8 @@ use gl_audit::ShareCount;
 use gl_gov_rules::{Cause, GovernanceRefusal, MemberStatus, NodeStatus, ProposalState, Vote};
 use gl_recovery::FinishFault;
 use gl_requests::{Action, ServiceState};
-use std::process::Abort;
 use std::test::Fail;
+use t_checks::{holds, same};
 
 // The digest of the share that was dealt to member 1.
 const SHARE_OF_1: [u8; 32] = [
@@ -110,14 +110,14 @@ pub const GIVE: [Row<'static>; 5] = [
 ];
 
 /// What is known of the service in the end.
-pub fn know_service(rt: &impl Abort, bench: &Bench) -> Result<(), Fail> {
-    assert_eq!(rt; bench.state.shares(), ShareCount { have: 2, need: 2 });
+pub fn know_service(bench: &Bench) -> Result<(), Fail> {
+    same!(bench.state.shares(), ShareCount { have: 2, need: 2 });
     let service = bench.state.service().ok_or("no service")?;
-    assert_eq!(rt;
+    same!(
         (service.state, service.is_recovered),
         (ServiceState::Open, true)
     );
-    assert_eq!(rt; service.identity, bench.identity()?);
+    same!(service.identity, bench.identity()?);
     Ok(())
 }
 
@@ -132,12 +132,12 @@ const MEMBERS: [(u8, MemberStatus, u32); 6] = [
 ];
 
 /// What is known of the members in the end.
-pub fn know_members(rt: &impl Abort, bench: &Bench) -> Result<(), Fail> {
+pub fn know_members(bench: &Bench) -> Result<(), Fail> {
     let members = bench.state.members()?;
-    assert_eq!(rt; members.len(), MEMBERS.len());
+    same!(members.len(), MEMBERS.len());
     for (member, due) in members.iter().zip(&MEMBERS) {
-        assert_eq!(rt; (member.number, member.status, member.next_leaf), *due);
-        assert_eq!(rt; member.key, bench.member_key(member.number));
+        same!((member.number, member.status, member.next_leaf), *due);
+        same!(member.key, bench.member_key(member.number));
     }
     Ok(())
 }
@@ -152,34 +152,34 @@ const NODES: [(u8, NodeStatus, u64, u8); 5] = [
 ];
 
 /// What is known of the nodes in the end.
-pub fn know_nodes(rt: &impl Abort, bench: &Bench) -> Result<(), Fail> {
+pub fn know_nodes(bench: &Bench) -> Result<(), Fail> {
     let nodes = bench.state.nodes()?;
-    assert_eq!(rt; nodes.len(), NODES.len());
+    same!(nodes.len(), NODES.len());
     for (order, (node, (number, status, removal, service))) in (1..).zip(nodes.iter().zip(&NODES)) {
-        assert_eq!(rt;
+        same!(
             (node.order, node.status, node.removal),
             (order, *status, *removal)
         );
-        assert_eq!(rt; node.id, bench.node_id(*number)?);
-        assert_eq!(rt; node.key, bench.node_key(*number)?);
+        same!(node.id, bench.node_id(*number)?);
+        same!(node.key, bench.node_key(*number)?);
         let due = bench.endorsement(*service, *number)?;
-        assert!(rt; node.endorsement.as_slice() == due.as_slice());
+        holds!(node.endorsement.as_slice() == due.as_slice());
     }
     Ok(())
 }
 
 /// What is known of proposals in the end.
-pub fn know_proposals(rt: &impl Abort, bench: &Bench) -> Result<(), Fail> {
+pub fn know_proposals(bench: &Bench) -> Result<(), Fail> {
     let p = bench.state.proposal(&bench.p)?.ok_or("no proposal")?;
-    assert_eq!(rt; (p.state, p.proposer), (ProposalState::Accepted, 1));
-    assert!(rt; matches!(p.actions.as_slice(), [Action::SetRecoveryThreshold(_)]));
+    same!((p.state, p.proposer), (ProposalState::Accepted, 1));
+    holds!(matches!(p.actions.as_slice(), [Action::SetRecoveryThreshold(_)]));
     let vote = Vote {
         member: 1,
         agrees: true,
     };
-    assert_eq!(rt; p.ballots.as_slice(), [vote].as_slice());
+    same!(p.ballots.as_slice(), [vote].as_slice());
     let q = bench.state.proposal(&bench.q)?.ok_or("no proposal")?;
-    assert_eq!(rt; (q.state, q.proposer), (ProposalState::Failed, 3));
-    assert!(rt; bench.state.proposal(&[0; 32])?.is_none());
+    same!((q.state, q.proposer), (ProposalState::Failed, 3));
+    holds!(bench.state.proposal(&[0; 32])?.is_none());
     Ok(())
 }

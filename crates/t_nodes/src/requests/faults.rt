@@ -5,6 +5,7 @@ use gl_base::{CodeFault, CutFault, OrNoMemory};
 use gl_requests::GovernanceRequest;
 use std::alloc::Global;
 use std::test::Fail;
+use t_checks::holds;
 
 /// Whether this is the first fault of bytes that are read as a request.
 fn is_fault(alloc: Global, bytes: &[u8], fault: CodeFault) -> bool {
@@ -43,7 +44,7 @@ fn reports_values_that_are_not_allowed(rt: HostRuntime) -> Result<(), Fail> {
     ];
     for (bytes, at) in &faults {
         let bytes = runs(alloc, bytes)?;
-        assert!(rt; is_fault(alloc, &bytes, bad_value(*at)), "{bytes:?}");
+        holds!(is_fault(alloc, &bytes, bad_value(*at)), at);
     }
     Ok(())
 }
@@ -67,7 +68,7 @@ fn reports_lengths_that_do_not_fit(rt: HostRuntime) -> Result<(), Fail> {
     ];
     for (bytes, fault) in &faults {
         let bytes = runs(alloc, bytes)?;
-        assert!(rt; is_fault(alloc, &bytes, *fault), "{fault:?}");
+        holds!(is_fault(alloc, &bytes, *fault), fault);
     }
     Ok(())
 }
@@ -77,7 +78,7 @@ fn is_short_wherever_it_is_cut(rt: HostRuntime) -> Result<(), Fail> {
     let alloc = rt.alloc();
     for bytes in [genesis(alloc)?, all_actions(alloc)?] {
         for end in 0..bytes.len() {
-            assert!(rt; is_fault(alloc, &bytes[..end], short(end)), "at {end}");
+            holds!(is_fault(alloc, &bytes[..end], short(end)), end);
         }
     }
     Ok(())

@@ -80,6 +80,7 @@ loop-kind-preserved g c =
     let encoded : suffix ≡ body_of body ++ new.bytes = sym (ap (λ (u : Unread). u.bytes) c.new_at-cut.ensures) ∙ c.in-Ok.ensures.encoded in
     let step = so_far ∙ fold_on goes_on place kind suffix body new rec state next read is (c.fold_next.ensures.folds was) (c.fold_next.ensures.some was) in
     record {
+      stands = c.fold_next.ensures.stands was;
       folded = step ∙ ap (λ (n : ℕ). fold_payload goes_on n new.bytes next) (sym c.at-place.ensures) ∙ ap (λ (l : List ℕ). fold_payload goes_on c.at-place.result l next) (sym c.rest-rest.ensures);
       size = omega (arith, facts.1, c.loop-kind.invariant.size, c.at-place.ensures, ap length c.rest-rest.ensures, ap length encoded, ap length c.in-Some.ensures.some, length-append (body_of body) new.bytes, length-body body);
     }

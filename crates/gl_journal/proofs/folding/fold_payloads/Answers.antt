@@ -24,6 +24,7 @@ loop-suffix-preserved g c =
     let first : payloads_from place rest ≡ with_first batch.payload.now more = opens_first place rest c.in-Some.suffix.now batch.payload.now batch.next batch.rest.now c.in-Some.ensures.open is.encoded is.small is.next in
     record {
       opens = first_opens batch.payload.now more (subst (λ (o : Opening). IsOk o) first c.loop-suffix.invariant.opens);
+      stands = c.in_ok-fold_payload.ensures.stands;
       folded = c.loop-suffix.invariant.folded ∙ ap (λ (o : Opening). fold_opening goes_on place o state) first ∙ opening_step goes_on place batch.payload.now more state next batch.next c.in_ok-fold_payload.ensures.folds is.next;
       size = omega (arith, is.next, c.loop-suffix.invariant.size, ap length is.encoded, ap length c.in-Some.ensures.open, length-append (body_of batch.payload.now) batch.rest.now, length-body batch.payload.now);
     }

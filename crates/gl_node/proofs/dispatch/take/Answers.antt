@@ -8,8 +8,8 @@ use Rattle.gl_replication.proofs.Merging.{rest_is}
 use Rattle.gl_node.specs.Batches.{IsChange}
 use Rattle.gl_node.specs.Frames.{appends_size, frame_if_fits}
 use Rattle.gl_node.proofs.Coming.{done_by, broken_by, refused_by}
-use Rattle.gl_node.proofs.TakenEntries.{step_led, step_tail, few_new}
-use Rattle.gl_node.proofs.Standings.{to_change}
+use Rattle.gl_node.proofs.TakenEntries.{few_new, step_base, step_led, step_low, step_tail}
+use Rattle.gl_node.proofs.Standings.{fits_after, to_change}
 use Rattle.gl_node.proofs.Framing.{small_frames, appends_part, frames_tail, length_map, room_less}
 use Rattle.gl_node.proofs.dispatch.take.Goals as goal
 
@@ -21,14 +21,32 @@ room-requires g c =
 pub returns-in-Err-room : goal.returns-in-Err-room
 returns-in-Err-room g c =
     let e = c.room.ensures in
-    refused_by g.B.Book.stands g.B.KeptBook.ledger g.B.KeptBook.goes_on g.D.Disk.honest g.D.Disk.bytes g.D.Disk.past g.D.Disk.faults c.requires.serving
-    (record { settles = e.«open»; reads = e.bytes; stops = e.past; counted = e.faults }) c.requires.serving.whole (rule_of c.args.event.now) NoMemory (λ b x n s. tt) (λ b x n s. s)
+    refused_by g.B.Book.stands g.B.KeptBook.held g.B.KeptBook.snapshot_of g.B.KeptBook.goes_on g.D.Disk.honest g.D.Disk.bytes g.D.Disk.past g.D.Disk.faults c.requires.serving
+    (record { settles = e.«open»; reads = e.bytes; stops = e.past; counted = e.faults }) c.requires.serving.above (rule_of c.args.event.now) NoMemory (λ b x n s. tt) (λ b x n s. s)
 
 pub returns-in-Err-step_core : goal.returns-in-Err-step_core
 returns-in-Err-step_core g c =
     let e = c.room.ensures in
-    refused_by g.B.Book.stands g.B.KeptBook.ledger g.B.KeptBook.goes_on g.D.Disk.honest g.D.Disk.bytes g.D.Disk.past g.D.Disk.faults c.requires.serving
-    (record { settles = e.«open»; reads = e.bytes; stops = e.past; counted = e.faults }) c.in-Err-step_core.ensures.whole (rule_of c.args.event.now) c.in-Err-step_core.why c.in-Err-step_core.ensures.refused c.in-Err-step_core.ensures.err
+    refused_by g.B.Book.stands g.B.KeptBook.held g.B.KeptBook.snapshot_of g.B.KeptBook.goes_on g.D.Disk.honest g.D.Disk.bytes g.D.Disk.past g.D.Disk.faults c.requires.serving
+    (record { settles = e.«open»; reads = e.bytes; stops = e.past; counted = e.faults }) c.in-Err-step_core.ensures.above (rule_of c.args.event.now) c.in-Err-step_core.why c.in-Err-step_core.ensures.refused c.in-Err-step_core.ensures.err
+
+pub overflow_sub-count : goal.overflow_sub-count
+overflow_sub-count g c =
+    let here = c.requires.serving in
+    let b = here.some.rules in
+    let x = here.some.me in
+    let n = here.some.node in
+    let s = here.some.standing in
+    let es = c.args.entries.now in
+    let kept = c.kept_upto-kept.result in
+    let step = rule_of c.args.event.now b x n in
+    let stepped = c.in-Ok-step_core.ensures.steps b x n s in
+    let takes = c.requires.takes b x n s in
+    let signed = c.kept_upto-kept.ensures.signed b _ s.ledger in
+    let above = c.step_core.ensures.above in
+    let tail = step_tail g.B.Book.stands g.B.KeptBook.held g.B.KeptBook.snapshot_of here.above s above step c.in-Ok-step_core.done stepped c.args.view c.args.prev es takes signed kept (c.kept_upto-kept.ensures.kept b x n s) in
+    let long : c.ledger_len.result ≡ length step.node.log = c.ledger_len.ensures.value b _ stepped.node.ledger in
+    omega (arith, long, tail.reach)
 
 pub overflow_sub-new : goal.overflow_sub-new
 overflow_sub-new g c =
@@ -42,14 +60,16 @@ overflow_sub-new g c =
     let step = rule_of c.args.event.now b x n in
     let stepped = c.in-Ok-step_core.ensures.steps b x n s in
     let takes = c.requires.takes b x n s in
-    let whole = c.step_core.ensures.whole in
-    let tail = step_tail g.B.Book.stands g.B.KeptBook.ledger here.whole s whole step c.in-Ok-step_core.done stepped c.args.view c.args.prev es takes kept (λ from commit. c.kept_upto-kept.ensures b x n s from commit) in
+    let signed = c.kept_upto-kept.ensures.signed b _ s.ledger in
+    let above = c.step_core.ensures.above in
+    let tail = step_tail g.B.Book.stands g.B.KeptBook.held g.B.KeptBook.snapshot_of here.above s above step c.in-Ok-step_core.done stepped c.args.view c.args.prev es takes signed kept (c.kept_upto-kept.ensures.kept b x n s) in
     let fs = c.deref-in-Ok-step_core.result.now in
     let made = ap items_of c.deref-in-Ok-step_core.ensures.value ∙ c.in-Ok.ensures in
     let all : length fs ≡ length es = sym (length_items_of fs) ∙ ap length made ∙ length_map frame_if_fits es in
     let count : c.len.result ≡ length es = omega (arith, all, c.len.ensures, c.deref-in-Ok-step_core.ensures.len) in
     let few = few_new kept es _ _ tail in
-    omega (arith, count, few, c.ledger_len.ensures.len)
+    let long = c.ledger_len.ensures.value b _ stepped.node.ledger in
+    omega (arith, count, few, long)
 
 pub keep-requires-clause-small : goal.keep-requires-clause-small
 keep-requires-clause-small g c =
@@ -77,29 +97,33 @@ returns-in-Ok-keep g c =
     let step = rule_of c.args.event.now b x n in
     let stepped = c.in-Ok-step_core.ensures.steps b x n s in
     let takes = c.requires.takes b x n s in
-    let whole = c.step_core.ensures.whole in
-    let tail = step_tail g.B.Book.stands g.B.KeptBook.ledger here.whole s whole step c.in-Ok-step_core.done stepped c.args.view c.args.prev es takes kept (λ from commit. c.kept_upto-kept.ensures b x n s from commit) in
+    let signed = c.kept_upto-kept.ensures.signed b _ s.ledger in
+    let above = c.step_core.ensures.above in
+    let tail = step_tail g.B.Book.stands g.B.KeptBook.held g.B.KeptBook.snapshot_of here.above s above step c.in-Ok-step_core.done stepped c.args.view c.args.prev es takes signed kept (c.kept_upto-kept.ensures.kept b x n s) in
     let fs = c.deref-in-Ok-step_core.result.now in
     let made = ap items_of c.deref-in-Ok-step_core.ensures.value ∙ c.in-Ok.ensures in
     let all : length fs ≡ length es = sym (length_items_of fs) ∙ ap length made ∙ length_map frame_if_fits es in
     let count : c.len.result ≡ length es = omega (arith, all, c.len.ensures, c.deref-in-Ok-step_core.ensures.len) in
-    let len = c.ledger_len.ensures in
+    let led = step_led g.B.Book.stands g.B.KeptBook.held g.B.KeptBook.snapshot_of here.above s above step c.in-Ok-step_core.done stepped c.args.view c.args.prev es takes signed in
+    let long : c.ledger_len.result ≡ length step.node.log = c.ledger_len.ensures.value b _ stepped.node.ledger in
+    let low = step_low g.B.Book.stands g.B.KeptBook.held g.B.KeptBook.snapshot_of here.above s above step c.in-Ok-step_core.done stepped c.args.view c.args.prev es takes signed kept (c.kept_upto-kept.ensures.kept b x n s) in
+    let fit = fits_after g.B.Book.stands g.B.KeptBook.held g.B.KeptBook.snapshot_of above stepped.node kept (omega (arith, led.base, low)) c.step_core.ensures.fit in
     let is = c.of-before.ensures in
     let k = c.len.result - (c.ledger_len.result - kept) in
     let frames = items_of (take (length fs - k) (drop k fs)) in
-    let start : k ≡ length es - (length (g.B.KeptBook.ledger c.step_core.new.core.book) - kept) = let l = len.len in omega (arith, count, l) in
-    let suffix : frames ≡ map frame_bytes (drop kept (g.B.KeptBook.ledger c.step_core.new.core.book)) = ap items_of (rest_is k fs) ∙ frames_tail fs es (g.B.KeptBook.ledger c.step_core.new.core.book) kept k made (tail.tail ∙ ap (λ (i : ℕ). drop i es) (sym start)) len.fit in
-    let led = step_led g.B.Book.stands g.B.KeptBook.ledger here.whole s whole step c.in-Ok-step_core.done stepped c.args.view c.args.prev es takes in
+    let start : k ≡ length es - (length step.node.log - kept) = omega (arith, count, long) in
+    let suffix : frames ≡ map frame_bytes (drop kept step.node.log) = ap items_of (rest_is k fs) ∙ frames_tail fs es step.node.log kept k made (tail.tail ∙ ap (λ (i : ℕ). drop i es) (sym start)) fit in
     let e = c.room.ensures in
     let put = c.keep.ensures in
-    done_by g.B.Book.stands g.B.KeptBook.ledger g.B.KeptBook.goes_on g.D.Disk.honest g.D.Disk.bytes g.D.Disk.past g.D.Disk.faults c.keep.new.journal here
-    (record { settles = e.«open»; reads = e.bytes; stops = e.past; counted = e.faults }) whole (rule_of c.args.event.now) c.in-Ok-step_core.done c.in-Ok-step_core.ensures.steps
-    (λ d. IsChange g.B.KeptBook.ledger g.B.KeptBook.goes_on d c.of-before.result kept frames c.step_core.new.core)
+    done_by g.B.Book.stands g.B.KeptBook.held g.B.KeptBook.snapshot_of g.B.KeptBook.goes_on g.D.Disk.honest g.D.Disk.bytes g.D.Disk.past g.D.Disk.faults c.keep.new.journal here
+    (record { settles = e.«open»; reads = e.bytes; stops = e.past; counted = e.faults }) above (rule_of c.args.event.now) c.in-Ok-step_core.done c.in-Ok-step_core.ensures.steps
+    (step_base g.B.Book.stands g.B.KeptBook.held g.B.KeptBook.snapshot_of here.above s above step c.in-Ok-step_core.done stepped c.args.view c.args.prev es takes signed)
+    (λ d. IsChange g.B.KeptBook.held g.B.KeptBook.goes_on d c.of-before.result kept frames c.step_core.new.core)
     (λ h.
     let f = here.file h in
     let more : n.reserved ≤ step.node.reserved = omega (arith, led.reserved) in
-    to_change g.B.Book.stands g.B.KeptBook.ledger here.whole s whole stepped.node g.B.KeptBook.goes_on f.state c.of-before.result kept frames led.view more tail.within tail.prefix suffix
-    f.keeps f.leaves is.view is.vote is.len is.leaves len.follow)
+    to_change g.B.Book.stands g.B.KeptBook.held g.B.KeptBook.snapshot_of here.above s above stepped.node g.B.KeptBook.goes_on f.state c.of-before.result kept frames led.view more led.base low tail.within tail.prefix suffix
+    f.keeps f.leaves is.view is.vote (is.len b _ s.ledger) is.leaves c.step_core.ensures.follow)
     c.keep.result put.«open» put.kept put.after put.any_moment put.faults c.in-Ok-keep.field-0 c.in-Ok-keep.is
 
 pub returns : goal.returns
@@ -114,27 +138,31 @@ returns g c =
     let step = rule_of c.args.event.now b x n in
     let stepped = c.in-Ok-step_core.ensures.steps b x n s in
     let takes = c.requires.takes b x n s in
-    let whole = c.step_core.ensures.whole in
-    let tail = step_tail g.B.Book.stands g.B.KeptBook.ledger here.whole s whole step c.in-Ok-step_core.done stepped c.args.view c.args.prev es takes kept (λ from commit. c.kept_upto-kept.ensures b x n s from commit) in
+    let signed = c.kept_upto-kept.ensures.signed b _ s.ledger in
+    let above = c.step_core.ensures.above in
+    let tail = step_tail g.B.Book.stands g.B.KeptBook.held g.B.KeptBook.snapshot_of here.above s above step c.in-Ok-step_core.done stepped c.args.view c.args.prev es takes signed kept (c.kept_upto-kept.ensures.kept b x n s) in
     let fs = c.deref-in-Ok-step_core.result.now in
     let made = ap items_of c.deref-in-Ok-step_core.ensures.value ∙ c.in-Ok.ensures in
     let all : length fs ≡ length es = sym (length_items_of fs) ∙ ap length made ∙ length_map frame_if_fits es in
     let count : c.len.result ≡ length es = omega (arith, all, c.len.ensures, c.deref-in-Ok-step_core.ensures.len) in
-    let len = c.ledger_len.ensures in
+    let led = step_led g.B.Book.stands g.B.KeptBook.held g.B.KeptBook.snapshot_of here.above s above step c.in-Ok-step_core.done stepped c.args.view c.args.prev es takes signed in
+    let long : c.ledger_len.result ≡ length step.node.log = c.ledger_len.ensures.value b _ stepped.node.ledger in
+    let low = step_low g.B.Book.stands g.B.KeptBook.held g.B.KeptBook.snapshot_of here.above s above step c.in-Ok-step_core.done stepped c.args.view c.args.prev es takes signed kept (c.kept_upto-kept.ensures.kept b x n s) in
+    let fit = fits_after g.B.Book.stands g.B.KeptBook.held g.B.KeptBook.snapshot_of above stepped.node kept (omega (arith, led.base, low)) c.step_core.ensures.fit in
     let is = c.of-before.ensures in
     let k = c.len.result - (c.ledger_len.result - kept) in
     let frames = items_of (take (length fs - k) (drop k fs)) in
-    let start : k ≡ length es - (length (g.B.KeptBook.ledger c.step_core.new.core.book) - kept) = let l = len.len in omega (arith, count, l) in
-    let suffix : frames ≡ map frame_bytes (drop kept (g.B.KeptBook.ledger c.step_core.new.core.book)) = ap items_of (rest_is k fs) ∙ frames_tail fs es (g.B.KeptBook.ledger c.step_core.new.core.book) kept k made (tail.tail ∙ ap (λ (i : ℕ). drop i es) (sym start)) len.fit in
-    let led = step_led g.B.Book.stands g.B.KeptBook.ledger here.whole s whole step c.in-Ok-step_core.done stepped c.args.view c.args.prev es takes in
+    let start : k ≡ length es - (length step.node.log - kept) = omega (arith, count, long) in
+    let suffix : frames ≡ map frame_bytes (drop kept step.node.log) = ap items_of (rest_is k fs) ∙ frames_tail fs es step.node.log kept k made (tail.tail ∙ ap (λ (i : ℕ). drop i es) (sym start)) fit in
     let e = c.room.ensures in
     let put = c.keep.ensures in
-    broken_by g.B.Book.stands g.B.KeptBook.ledger g.B.KeptBook.goes_on g.D.Disk.honest g.D.Disk.bytes g.D.Disk.past g.D.Disk.faults c.keep.new.journal here
-    (record { settles = e.«open»; reads = e.bytes; stops = e.past; counted = e.faults }) whole (rule_of c.args.event.now) c.in-Ok-step_core.done c.in-Ok-step_core.ensures.steps
-    (λ d. IsChange g.B.KeptBook.ledger g.B.KeptBook.goes_on d c.of-before.result kept frames c.step_core.new.core)
+    broken_by g.B.Book.stands g.B.KeptBook.held g.B.KeptBook.snapshot_of g.B.KeptBook.goes_on g.D.Disk.honest g.D.Disk.bytes g.D.Disk.past g.D.Disk.faults c.keep.new.journal here
+    (record { settles = e.«open»; reads = e.bytes; stops = e.past; counted = e.faults }) above (rule_of c.args.event.now) c.in-Ok-step_core.done c.in-Ok-step_core.ensures.steps
+    (step_base g.B.Book.stands g.B.KeptBook.held g.B.KeptBook.snapshot_of here.above s above step c.in-Ok-step_core.done stepped c.args.view c.args.prev es takes signed)
+    (λ d. IsChange g.B.KeptBook.held g.B.KeptBook.goes_on d c.of-before.result kept frames c.step_core.new.core)
     (λ h.
     let f = here.file h in
     let more : n.reserved ≤ step.node.reserved = omega (arith, led.reserved) in
-    to_change g.B.Book.stands g.B.KeptBook.ledger here.whole s whole stepped.node g.B.KeptBook.goes_on f.state c.of-before.result kept frames led.view more tail.within tail.prefix suffix
-    f.keeps f.leaves is.view is.vote is.len is.leaves len.follow)
+    to_change g.B.Book.stands g.B.KeptBook.held g.B.KeptBook.snapshot_of here.above s above stepped.node g.B.KeptBook.goes_on f.state c.of-before.result kept frames led.view more led.base low tail.within tail.prefix suffix
+    f.keeps f.leaves is.view is.vote (is.len b _ s.ledger) is.leaves c.step_core.ensures.follow)
     c.keep.result put.«open» put.kept put.after put.any_moment put.faults c.in-Err-keep.field-0 c.in-Err-keep.is

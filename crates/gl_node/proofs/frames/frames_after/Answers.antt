@@ -13,9 +13,9 @@ use Rattle.gl_node.proofs.frames.frames_after.Goals as goal
 pub returns : goal.returns
 returns g c =
     let es = c.ledger-entries.result.now in
-    let k = c.args.seqno in
-    let ledger = g.B.KeptBook.ledger c.args.book.now in
+    let k = c.args.count in
+    let held = (g.B.KeptBook.held c.args.book.now).entries in
     let fit = All-drop (λ (e : Entry). IsTrue (is_entry e)) k es c.ledger-entries.ensures.fit in
-    IfOk-weaker c.frames_of.result _ (λ (frames : Vec (Vec ℕ Global) Global). items_of frames.items ≡ map frame_bytes (drop k ledger))
+    IfOk-weaker c.frames_of.result _ (λ (frames : Vec (Vec ℕ Global) Global). items_of frames.items ≡ map frame_bytes (drop k held))
     (λ frames is. is ∙ ap (map frame_if_fits) (rest_is k es) ∙ frames_fit (drop k es) fit ∙ ap (λ (l : List Entry). map frame_bytes (drop k l)) c.ledger-entries.ensures.entries)
     c.frames_of.ensures

@@ -18,8 +18,8 @@ loop-frame-preserved c =
     let size = size_push so_far c.push_reserved.new.self.items (Append c.deref.result) c.push_reserved.ensures.items in
     record {
       folds = λ goes_on d m first each.
-          let goes = goes_next goes_on m.log fs i f below is each in
-          let shown : goes_on (m.log ++ items_of (take i fs)) c.deref.result.now ≡ true = ap (goes_on (m.log ++ items_of (take i fs))) c.deref.ensures.value ∙ goes in
+          let goes = goes_next goes_on m.snapshot m.log fs i f below is each in
+          let shown : goes_on.appends m.snapshot (m.log ++ items_of (take i fs)) c.deref.result.now ≡ true = ap (goes_on.appends m.snapshot (m.log ++ items_of (take i fs))) c.deref.ensures.value ∙ goes in
           let log : (m.log ++ items_of (take i fs)) ++ c.deref.result.now ∷ [] ≡ m.log ++ items_of (take (i + 1) fs) =
           ap (λ (x : List ℕ). (m.log ++ items_of (take i fs)) ++ x ∷ []) c.deref.ensures.value ∙ log_more m.log fs i f below is in
           let mid : Durable = record m { log = m.log ++ items_of (take i fs) } in

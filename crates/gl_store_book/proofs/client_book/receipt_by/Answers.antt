@@ -14,5 +14,5 @@ answered made (Err e) found fails = fails
 
 pub returns : goal.returns
 returns c =
-    let l = receipts_of c.args.ledger.now.store.now.ledger c.args.ledger.now.commit in
+    let l = receipts_of 0 c.args.ledger.now.store.now.ledger c.args.ledger.now.commit in
     answered (receipt_of l c.args.id) c.make.result (c.make.ensures.made l refl) (c.make.ensures.refused l refl)

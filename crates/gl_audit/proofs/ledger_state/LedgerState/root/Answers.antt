@@ -1,18 +1,11 @@
-use Rattle.std.proofs.Common.{◌≡◌, ◌<◌, length, arith, subst}
-use Rattle.gl_merkle.specs.Tree.{root_of}
-use Rattle.gl_merkle.specs.Frontier.{count_of}
-use Rattle.gl_ledger.specs.Tree.{leaves_of}
-use Rattle.gl_audit.specs.declared.ledger_end.LedgerEnd.{LedgerEnd}
-use Rattle.gl_audit.proofs.TablesLaws.{of_frontier, count_of_frontier}
+use Rattle.std.proofs.Common.{◌∙◌, arith}
+use Rattle.gl_audit.proofs.PastOver.{count_kept, root_kept}
 use Rattle.gl_audit.proofs.ledger_state.LedgerState.root.Goals as goal
 
 pub root-requires : goal.root-requires
 root-requires c =
-    let ledger = c.requires.state.0 in
-    let k = c.requires.state.1 in
-    let count : count_of c.args.self.now.frontier ≡ length ledger = count_of_frontier c.args.self.now.frontier ledger k.tree in
-    let some : 0 < length ledger = subst (λ (end : LedgerEnd). 0 < end.len) k.ends c.requires.some in
-    omega (arith, count, some)
+    let count = count_kept c.requires.state.0 c.requires.state.1 c.args.self.now c.requires.state.2 in
+    omega (arith, count, c.requires.some)
 
 pub returns : goal.returns
-returns c = λ ledger k. of_frontier c.args.self.now.frontier (leaves_of ledger) (λ leaves. c.root.result ≡ root_of leaves) k.tree c.root.ensures.root
+returns c = λ body es k. c.root.ensures.over ∙ root_kept body es c.args.self.now k

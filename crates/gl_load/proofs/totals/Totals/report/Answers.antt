@@ -1,11 +1,11 @@
-use Rattle.std.proofs.Common.{◌≡◌, ◌<◌, length, ap, arith}
+use Rattle.std.proofs.Common.{◌≡◌, length, ap, arith}
 use Rattle.gl_ledger.specs.Tree.{writes_of}
 use Rattle.gl_audit.specs.declared.ledger_end.LedgerEnd.{LedgerEnd}
 use Rattle.gl_load.proofs.Auditing.{reported}
 use Rattle.gl_load.proofs.totals.Totals.report.Goals as goal
 
 pub root-requires-clause-state : goal.root-requires-clause-state
-root-requires-clause-state c = (c.requires.0, c.requires.1.state)
+root-requires-clause-state c = (_, c.requires.0, c.requires.1.state)
 
 pub root-requires-clause-some : goal.root-requires-clause-some
 root-requires-clause-some c =
@@ -15,5 +15,5 @@ root-requires-clause-some c =
 
 pub returns : goal.returns
 returns c = λ ledger at.
-    reported ledger c.args.self.now _ _ _ _ at (c.end-end.ensures ledger at.state) (c.size.ensures.stands (writes_of ledger) (c.tables.ensures ledger at.state)) c.id_or_none.ensures
-    (c.root.ensures ledger at.state)
+    reported ledger c.args.self.now _ _ _ _ at (c.end-end.ensures _ ledger at.state) (c.size.ensures.stands (writes_of ledger) (c.tables.ensures _ ledger at.state)) c.id_or_none.ensures
+    (c.root.ensures _ ledger at.state)

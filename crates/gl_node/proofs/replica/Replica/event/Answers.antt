@@ -16,5 +16,5 @@ returns-clause-any_moment g c =
     let P : Seen _ _ _ _ _ _ _ → Type 0 = λ v. IsTrue g.D.Disk.honest → v.stopped ≡ None → Reports g.B.Book.stands v.core (λ b x n. (d : Durable) → durable g.B.KeptBook.goes_on (g.D.Disk.bytes v.disk) ≡ Ok d →
     Leaves (OpensToOneOf g.B.KeptBook.goes_on d (kept_after d (rule_of c.args.event b x n).node)) (g.D.Disk.past v.disk) (g.D.Disk.past then.journal.gated.disk)) in
     subst P c.self.view_is (λ h idle.
-    let here = subst (λ (stopped : Option ℕ). IsReplica g.B.Book.stands g.B.KeptBook.ledger g.B.KeptBook.goes_on g.D.Disk.honest g.D.Disk.bytes g.D.Disk.past inside.core inside.journal stopped) idle c.self.invariant in
-    every_moment g.B.Book.stands g.B.KeptBook.ledger g.B.KeptBook.goes_on g.D.Disk.honest g.D.Disk.bytes g.D.Disk.past g.D.Disk.faults (rule_of c.args.event) here c.dispatch-came.result then.core then.journal c.dispatch-came.ensures h)
+    let here = subst (λ (stopped : Option ℕ). IsReplica g.B.Book.stands g.B.KeptBook.held g.B.KeptBook.snapshot_of g.B.KeptBook.goes_on g.D.Disk.honest g.D.Disk.bytes g.D.Disk.past inside.core inside.journal stopped) idle c.self.invariant in
+    every_moment g.B.Book.stands g.B.KeptBook.held g.B.KeptBook.snapshot_of g.B.KeptBook.goes_on g.D.Disk.honest g.D.Disk.bytes g.D.Disk.past g.D.Disk.faults (rule_of c.args.event) here c.dispatch-came.result then.core then.journal c.dispatch-came.ensures h)

@@ -1,4 +1,4 @@
-use Rattle.std.proofs.Common.{rules, nat_lt, ◌&&◌, sym, ap, subst, map, ◌+◌, length, take, Ok, Err, ◌∙◌}
+use Rattle.std.proofs.Common.{rules, sym, ap, subst, map, ◌+◌, length, take, Ok, Err, ◌∙◌}
 use Rattle.gl_rules.specs.Outcome.{Step, Refused, BelowCommit}
 use Rattle.gl_rules.specs.Replication.{become_follower, checked_append}
 use Rattle.gl_rules.specs.Steps.{cut_to, update_view}
@@ -26,7 +26,7 @@ returns-then-is_cut_below-clause-refused g c = λ b x n s.
     let h = c.requires.len b x n s in
     let low = low_of g.B.Book.stands s c.args.view c.requires.view in
     below_commit b c.args.y c.args.view n low x c.args.len c.args.prev c.args.entries.now c.args.held c.args.theirs h.0 h.1 c.if-held-entries.false
-    (ap (λ k. nat_lt (c.args.prev + c.args.held) c.args.len && nat_lt (c.args.prev + c.args.held) k) (sym (commit_of g.B.Book.stands s)) ∙ sym c.is_cut_below.ensures ∙ c.if-is_cut_below.true)
+    (sym (c.is_cut_below.ensures.value b x n s) ∙ c.if-is_cut_below.true)
     ∙ ap (λ k. Refused (BelowCommit k (c.args.prev + c.args.held))) (sym (commit_of g.B.Book.stands s))
 
 pub returns-in-Err-Fault-clause-refused : goal.returns-in-Err-Fault-clause-refused
@@ -36,7 +36,7 @@ returns-in-Err-Fault-clause-refused g c = λ b x n s.
     let k = c.in-Err-Fault.ensures.refused b x n s in
     ap (λ (m : Step Entry g.row.B-Response.Denot g.row.B-Refused.Denot). m.outcome)
     (some_new b c.args.y c.args.view n low x c.args.len c.args.prev c.args.entries.now c.args.held c.args.theirs h.0 h.1 c.if-held-entries.false
-    (ap (λ k. nat_lt (c.args.prev + c.args.held) c.args.len && nat_lt (c.args.prev + c.args.held) k) (sym (commit_of g.B.Book.stands s)) ∙ sym c.is_cut_below.ensures ∙ c.if-is_cut_below.false)
+    (sym (c.is_cut_below.ensures.value b x n s) ∙ c.if-is_cut_below.false)
     c.requires.within.0 (Err c.in-Err-Fault.why)
     (ap (checked_append b n.base (take (c.args.prev + c.args.held) n.log)) (sym (rest_is c.args.held c.args.entries.now)) ∙ expected _ c.in-Err-Fault.field-0 c.in-Err-Fault.why (search rules) k))
 
@@ -47,7 +47,7 @@ returns-clause-steps g c = λ b x n s.
     let r = c.in-Ok-replace_tail.ensures.grown b x n s in
     subst (λ (m : Step Entry g.row.B-Response.Denot g.row.B-Refused.Denot). Stepped g.B.Book.stands b x m c.accept_entries-in-Ok-replace_tail.result c.accept_entries-in-Ok-replace_tail.new.self)
     (sym (some_new b c.args.y c.args.view n low x c.args.len c.args.prev c.args.entries.now c.args.held c.args.theirs h.0 h.1 c.if-held-entries.false
-    (ap (λ k. nat_lt (c.args.prev + c.args.held) c.args.len && nat_lt (c.args.prev + c.args.held) k) (sym (commit_of g.B.Book.stands s)) ∙ sym c.is_cut_below.ensures ∙ c.if-is_cut_below.false)
+    (sym (c.is_cut_below.ensures.value b x n s) ∙ c.if-is_cut_below.false)
     c.requires.within.0 (Ok r.0) (ap (checked_append b n.base (take (c.args.prev + c.args.held) n.log)) (sym (rest_is c.args.held c.args.entries.now)) ∙ r.1)))
     (accepted g.B.Book.stands c.args.y c.args.view (c.args.prev + length c.args.entries.now) c.args.theirs (record (cut_to (c.args.prev + c.args.held) (become_follower b c.args.y (update_view b c.args.view n))) { log = r.0 }) c.accept_entries-in-Ok-replace_tail.result
     (c.accept_entries-in-Ok-replace_tail.ensures.0 b x _ r.2)

@@ -12,7 +12,7 @@ pub returns-in-Ok-on_propose_vote-clause-steps : goal.returns-in-Ok-on_propose_v
 returns-in-Ok-on_propose_vote-clause-steps g c = λ b x n s.
     let p = c.args.self.now.peer in
     let asked = campaigning g.B.Book.stands s (λ m l a o. at_propose_vote m l a o c.args.view p) c.me-me.result c.last_signature-last.result c.configurations.result.now c.of-active.result c.deref.result.now
-    (c.me-me.ensures b _ s.ledger) (c.last_signature-last.ensures.value b _ s.ledger) c.of-active.ensures (c.configurations.ensures.active b _ s.ledger) (c.deref.ensures.value ∙ c.in-Ok.ensures b x n s) in
+    (c.me-me.ensures b _ s.ledger) (c.last_signature-last.ensures.value b _ s.ledger) c.of-active.ensures (c.configurations.ensures.active b _ s.ledger (c.last_signature-last.ensures.base b _ s.ledger)) (c.deref.ensures.value ∙ c.in-Ok.ensures b x n s (c.last_signature-last.ensures.base b _ s.ledger)) in
     turned g.B.Book.stands s c.on_propose_vote.new.self c.in-Ok-on_propose_vote.elected c.settle.result
     (at_propose_vote c.me-me.result c.last_signature-last.result (sets_of c.of-active.result) c.deref.result.now c.args.view p) (on_message b (message_to x c.args.from c.args.view ProposeVote) n)
     (propose_vote_is b x c.args.from c.args.view p n (peer_of g.B.Book.stands s) ∙ ap (λ t. step_of b t n) (sym asked)) c.in-Ok-on_propose_vote.ensures.exact c.settle.ensures
@@ -21,7 +21,7 @@ pub returns-clause-refused : goal.returns-clause-refused
 returns-clause-refused g c = λ b x n s.
     let p = c.args.self.now.peer in
     let asked = campaigning g.B.Book.stands s (λ m l a o. at_propose_vote m l a o c.args.view p) c.me-me.result c.last_signature-last.result c.configurations.result.now c.of-active.result c.deref.result.now
-    (c.me-me.ensures b _ s.ledger) (c.last_signature-last.ensures.value b _ s.ledger) c.of-active.ensures (c.configurations.ensures.active b _ s.ledger) (c.deref.ensures.value ∙ c.in-Ok.ensures b x n s) in
+    (c.me-me.ensures b _ s.ledger) (c.last_signature-last.ensures.value b _ s.ledger) c.of-active.ensures (c.configurations.ensures.active b _ s.ledger (c.last_signature-last.ensures.base b _ s.ledger)) (c.deref.ensures.value ∙ c.in-Ok.ensures b x n s (c.last_signature-last.ensures.base b _ s.ledger)) in
     refuses g.B.Book.stands b n c.refusal_of.result c.in-Err-on_propose_vote.why
     (at_propose_vote c.me-me.result c.last_signature-last.result (sets_of c.of-active.result) c.deref.result.now c.args.view p) (on_message b (message_to x c.args.from c.args.view ProposeVote) n)
     c.refusal_of.ensures (propose_vote_is b x c.args.from c.args.view p n (peer_of g.B.Book.stands s) ∙ ap (λ t. step_of b t n) (sym asked)) c.in-Err-on_propose_vote.ensures.exact

@@ -1,43 +1,42 @@
-use Rattle.std.proofs.Common.{◌≡◌, ◌∙◌, ◌==◌, length, ℕ, List, [], ◌∷◌, ◌++◌, sym, subst, ap, ap₂}
-use Rattle.gl_entry.specs.declared.entry.Entry.{Entry}
+use Rattle.std.proofs.Common.{◌≡◌, ◌∙◌, ◌+◌, ◌==◌, ℕ, None, length, ap, subst, sym, arith}
+use Rattle.std.proofs.lemmas.Result.{err_from_is_err_and}
 use Rattle.gl_gov_rules.specs.Changes.{history}
-use Rattle.gl_gov_rules.specs.Governed as governed
-use Rattle.gl_gov_rules.specs.declared.change.Recorded.{Recorded}
-use Rattle.gl_gov_rules.specs.ProposalStatus.{proposal_status}
-use Rattle.gl_audit.specs.GovState.{share_count}
+use Rattle.gl_gov_rules.specs.Refusals.{refusal}
+use Rattle.gl_ledger.specs.Ledger.{governance_entry}
 use Rattle.gl_ledger.specs.Recordings.{requests_of}
-use Rattle.gl_ledger.proofs.Governed.{above}
+use Rattle.gl_snapshot_body.specs.Body.{no_body}
 use Rattle.gl_audit.specs.Committed.{Held}
-use Rattle.gl_store.proofs.Governing.{requests_after}
-use Rattle.gl_audit.proofs.RuleTests.{nothing_kept}
+use Rattle.gl_audit.specs.GovState.{Refuses}
+use Rattle.gl_store.proofs.KeptEntries.{held_still, kept_becomes, none_below}
 use Rattle.gl_store.proofs.store.Store.governance_entry.Goals as goal
 
-pub effect-requires-clause-above : goal.effect-requires-clause-above
-effect-requires-clause-above c =
-    let ledger = c.args.self.now.ledger in
-    let recorded : c.self.inside.state.gov ≡ requests_of ledger = c.self.invariant.stands.governed ∙ ap (λ (h : Held). requests_of h.ledger) c.self.view_is in
-    subst (governed.IsAbove c.next_seqno-seqno.result) (sym recorded) (subst (λ n. governed.IsAbove n (requests_of ledger)) (sym c.next_seqno-seqno.ensures) (above ledger))
+pub governance_entry-requires-clause-founding : goal.governance_entry-requires-clause-founding
+governance_entry-requires-clause-founding c = λ body s.
+    let none = none_below c.self.inside.tail _ body c.self.invariant s in
+    let same : length c.self.inside.tail.entries ≡ body.base + length c.self.inside.tail.entries = omega (arith, none) in
+    c.requires.founding ∙ ap (λ (h : Held). length h.ledger == 0) (sym c.self.view_is) ∙ ap (λ (n : ℕ). n == 0) same
 
-pub effect-requires-clause-founding : goal.effect-requires-clause-founding
-effect-requires-clause-founding c =
-    c.requires.founding ∙ sym (nothing_kept c.self.inside.entries.items _ c.self.invariant.stands ∙ ap (λ (h : Held). length h.ledger == 0) c.self.view_is)
+pub returns-clause-accepted : goal.returns-clause-accepted
+returns-clause-accepted c =
+    subst (λ (h : Held). refusal (history (requests_of h.ledger)) (length h.ledger + 1) c.args.request.now ≡ None) c.self.view_is (c.in_ok-entry.ensures.accepted no_body c.self.invariant.stands)
 
-pub returns-clause-proposal : goal.returns-clause-proposal
-returns-clause-proposal c =
-    let ledger = c.args.self.now.ledger in
-    let g = c.args.request.now in
-    let recorded : c.self.inside.state.gov ≡ requests_of ledger = c.self.invariant.stands.governed ∙ ap (λ (h : Held). requests_of h.ledger) c.self.view_is in
-    let after : c.self.inside.state.gov ++ record { seqno = c.next_seqno-seqno.result; request = g } ∷ [] ≡ requests_of (ledger ++ c.in_ok-entry.entry ∷ []) =
-    ap₂ (λ (rs : List Recorded) (n : ℕ). rs ++ record { seqno = n; request = g } ∷ []) recorded c.next_seqno-seqno.ensures
-    ∙ sym (requests_after ledger g c.in_ok-entry.entry c.requires.fits (ap (λ (e : Entry). e.content) c.in_ok-entry.ensures.made)) in
-    c.in_ok-effect.ensures.proposal ∙ ap (λ (rs : List Recorded). proposal_status (history rs) g) after
+pub returns-clause-made : goal.returns-clause-made
+returns-clause-made c = subst (λ (h : Held). c.in_ok-entry.entry ≡ governance_entry c.args.request.now h.ledger c.args.view) c.self.view_is (c.in_ok-entry.ensures.made no_body c.self.invariant.stands)
 
-pub returns-clause-shares : goal.returns-clause-shares
-returns-clause-shares c =
-    let ledger = c.args.self.now.ledger in
-    let g = c.args.request.now in
-    let recorded : c.self.inside.state.gov ≡ requests_of ledger = c.self.invariant.stands.governed ∙ ap (λ (h : Held). requests_of h.ledger) c.self.view_is in
-    let after : c.self.inside.state.gov ++ record { seqno = c.next_seqno-seqno.result; request = g } ∷ [] ≡ requests_of (ledger ++ c.in_ok-entry.entry ∷ []) =
-    ap₂ (λ (rs : List Recorded) (n : ℕ). rs ++ record { seqno = n; request = g } ∷ []) recorded c.next_seqno-seqno.ensures
-    ∙ sym (requests_after ledger g c.in_ok-entry.entry c.requires.fits (ap (λ (e : Entry). e.content) c.in_ok-entry.ensures.made)) in
-    c.in_ok-effect.ensures.shares ∙ ap (λ (rs : List Recorded). share_count (history rs)) after
+pub returns-clause-kept : goal.returns-clause-kept
+returns-clause-kept c = held_still c.self.inside.tail c.governance_entry.new.self c.self.inside.commit c.args.self.now c.self.view_is c.governance_entry.ensures.kept
+
+pub invariant_of-self : goal.invariant_of-self
+invariant_of-self c = kept_becomes c.self.inside.tail c.governance_entry.new.self _ c.self.invariant c.governance_entry.ensures.kept
+
+pub invariant_of-self-2 : goal.invariant_of-self-2
+invariant_of-self-2 c = kept_becomes c.self.inside.tail c.governance_entry.new.self _ c.self.invariant c.governance_entry.ensures.kept
+
+-- refused, or memory ran out
+pub returns-in_err-entry-clause-refused : goal.returns-in_err-entry-clause-refused
+returns-in_err-entry-clause-refused c =
+    let p = err_from_is_err_and c.from_residual.result c.from_residual.ensures.1 in
+    let refused =
+    subst (λ (h : Held). Refuses (refusal (history (requests_of h.ledger)) (length h.ledger + 1) c.args.request.now) c.in_err-entry.field-0.0) c.self.view_is
+    (c.in_err-entry.ensures.refused no_body c.self.invariant.stands) in
+    rw (p.1, p.2) refused

@@ -14,10 +14,10 @@ returns-then-not-ends_with_opening-clause-refused c =
 pub invariant_of-self : goal.invariant_of-self
 invariant_of-self c =
     let ends : c.ends_with_opening.result ≡ true = search rules in
-    let begun : is_unopened (last_entry (take (length c.self.inside.entries.items - 1) c.self.inside.entries.items)) ≡ true =
+    let t = c.self.inside.tail in
+    let begun : is_unopened (last_entry (take (length t.entries - 1) t.entries)) ≡ true =
     subst (λ (h : Held). is_unopened (last_entry (take (length h.ledger - 1) h.ledger)) ≡ true) (sym c.self.view_is) (sym c.ends_with_opening.ensures ∙ ends) in
-    subst (λ (n : ℕ). IsKept c.self.inside.entries.items (record { commit = n; state = c.self.inside.state })) (ap (λ (h : Held). length h.ledger) c.self.view_is ∙ sym c.ledger_len-len.ensures.len)
-    (kept_opened c.self.inside.entries.items _ c.self.invariant begun)
+    subst (λ (n : ℕ). IsKept t n) (ap (λ (h : Held). length h.ledger) c.self.view_is ∙ sym c.ledger_len-len.ensures.len) (kept_opened t _ c.self.invariant begun)
 
 pub returns-clause-opened : goal.returns-clause-opened
 returns-clause-opened c =

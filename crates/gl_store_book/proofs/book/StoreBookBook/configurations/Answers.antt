@@ -13,8 +13,8 @@ use Rattle.gl_store_book.proofs.book.StoreBookBook.configurations.Goals as goal
 
 pub returns-clause-active : goal.returns-clause-active
 returns-clause-active c = reports c.args.self.now
-    (λ b h. (commit : ℕ) → h.base ≤ commit → sets_of (active_of c.configurations.result.now commit) ≡ active b (take c.args.upto h.log) commit)
-    (λ keys has commit low.
+    (λ b h. h.base ≤ c.args.upto → (commit : ℕ) → h.base ≤ commit → sets_of (active_of c.configurations.result.now commit) ≡ active b (take c.args.upto h.log) commit)
+    (λ keys has upon commit low.
     let book = ledger_book service_layers keys in
     let same : c.self.inside.ledger ≡ c.args.self.now.ledger = ap (λ (n : NodeStore). n.ledger) c.self.view_is in
     ap (λ (cs : List Configuration). sets_of (active_of cs commit)) (c.configurations.ensures.prefix keys ∙ ap (λ (es : List Entry). configurations_of book (take c.args.upto es)) same)
@@ -22,9 +22,9 @@ returns-clause-active c = reports c.args.self.now
 
 pub returns-clause-above : goal.returns-clause-above
 returns-clause-above c = reports c.args.self.now
-    (λ b h. (commit : ℕ) → h.base ≤ commit →
+    (λ b h. h.base ≤ c.args.upto → (commit : ℕ) → h.base ≤ commit →
     sets_of (above commit c.configurations.result.now) ≡ configurations_above b (take c.args.upto h.log) commit (length (take c.args.upto h.log)))
-    (λ keys has commit low.
+    (λ keys has upon commit low.
     let book = ledger_book service_layers keys in
     let same : c.self.inside.ledger ≡ c.args.self.now.ledger = ap (λ (n : NodeStore). n.ledger) c.self.view_is in
     let prefix = take c.args.upto c.args.self.now.ledger in

@@ -1,0 +1,27 @@
+-- What a node offers one that begins from its ledger, and what that one is then.
+use Rattle.std.specs.Prelude.{◌≡◌, ◌-◌, ℕ, List, Some, None, length, take}
+use Rattle.gl_entry.specs.declared.entry.Entry.{Entry}
+use Rattle.gl_rules.specs.Book.{Book}
+use Rattle.gl_rules.specs.Node.{Node}
+use Rattle.gl_rules.specs.Log.{view_at}
+use Rattle.gl_rules.specs.Steps.{update_view}
+use Rattle.gl_rules.specs.Replication.{snapshot_of}
+use Rattle.gl_snapshot_body.specs.declared.body.Body.{Body}
+use Rattle.gl_replication.specs.declared.snapshots.Offer.{Offer}
+use Rattle.gl_replication.specs.declared.snapshots.Offer.TheVariants as offers
+
+module _ {Q G R A F : Type 0} where
+  -- A node offers this, where such a body is a snapshot of such a ledger.
+  abbrev pub Offers : (Body → Book Entry Q G R A F → List Entry → Type 0) → Offer →
+      Book Entry Q G R A F → Node Entry → Type 0
+  Offers shows (offers.Snapshot body) b m =
+      (seqno : ℕ) × (snapshot_of b m ≡ Some seqno) × shows body b (take (seqno - 1) m.log)
+  Offers shows (offers.NoLaterSignature commit) b m = (snapshot_of b m ≡ None) × (commit ≡ m.commit)
+
+-- A node that begins with a ledger that came by a snapshot.
+abbrev pub begun_from : {E Q G R A F : Type 0} → Book E Q G R A F → List E → Node E → Node E
+begun_from b log n = record (update_view b (view_at b log (length log)) n) {
+  log = log;
+  base = length log;
+  commit = length log;
+}

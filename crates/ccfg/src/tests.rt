@@ -32,7 +32,7 @@ mod turns;
 mod words;
 
 /// Nobody looks on.
-#[derive(Clone, Copy, Debug)]
+#[derive(Clone, Copy)]
 struct Unwatched;
 
 impl Observer for Unwatched {

@@ -1,5 +1,5 @@
 -- Why a genesis is refused.
-use Rattle.std.proofs.Common.{◌≡◌, ℕ, ◌+◌, ◌||◌, ◌==◌, Bool, true, false, not, nat_lt, List, length, Option, None, Some, sym, ◌∙◌, ap₂, subst}
+use Rattle.std.proofs.Common.{◌≡◌, ◌+◌, ◌||◌, ◌==◌, Bool, true, false, not, nat_lt, List, length, Option, None, Some, sym, ◌∙◌, ap₂, subst}
 use Rattle.gl_requests.specs.declared.genesis.NewNode.{NewNode}
 use Rattle.gl_requests.specs.declared.genesis.Genesis as founding
 use Rattle.gl_requests.specs.declared.request.GovernanceRequest.TheVariants as requests

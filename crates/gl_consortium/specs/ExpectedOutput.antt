@@ -14,7 +14,8 @@ use Rattle.gl_hss.specs.declared.types.Types.{Types}
 use Rattle.gl_hss.specs.Profile.{key_of_seed, signature_by}
 use Rattle.gl_hss.specs.Signer.{hss_signature}
 use Rattle.gl_rules.specs.World.{first_view}
-use Rattle.gl_entry.specs.Entry.{frame_bytes}
+use Rattle.gl_entry.specs.Entry.{frame_bytes, no_digest}
+use Rattle.gl_entry.specs.declared.entry.Content.TheVariants as content
 use Rattle.gl_entry.specs.declared.entry.Entry.{Entry}
 use Rattle.gl_requests.specs.Encoding.{node_id, request_bytes, signed_bytes}
 use Rattle.gl_requests.specs.declared.genesis.NewNode.{NewNode}
@@ -71,6 +72,21 @@ abbrev pub opening_signature : PrivateKey → ℕ → founding.Genesis → List 
 opening_signature by leaf g =
     hss_signature by (Some (first_endorsement g.nodes)) leaf
     (message_after (genesis_entry g ∷ []) first_view 2)
+
+-- The entry of the signature that opens a service: by this node, over this root.
+abbrev pub opening_entry : List ℕ → List ℕ → List ℕ → Entry
+opening_entry node root signature = record {
+  view = 2;
+  seqno = 2;
+  content = content.Signature (record {
+    node = node;
+    commit = 2;
+    root = root;
+    signature = signature;
+  });
+  writes = [];
+  claims = no_digest;
+}
 
 -- The opening ledger of settings: their genesis, and that signature.
 abbrev pub opening_of : PrivateKey → ℕ → founding.Genesis → List Entry

@@ -1,13 +1,18 @@
 //! The opening of a service.
 
-ghost use Rattle.std.specs.Prelude.{◌≡◌, ◌<◌, ◌^◌, [], None, true, IfOk, OnOk};
+ghost use Rattle.std.specs.Prelude.{◌≡◌, ◌<◌, ◌≤◌, ◌^◌, [], ◌∷◌, None, Some, length, true, IfOk, OnOk};
 ghost use Rattle.gl_base.specs.Answers.{Answers};
+ghost use Rattle.gl_hss.specs.Signer.{hss_signature};
 ghost use Rattle.gl_hss.specs.Types.{height};
-ghost use Rattle.gl_entry.specs.Entry.{no_digest};
+ghost use Rattle.gl_merkle.specs.Tree.{root_of};
+ghost use Rattle.gl_entry.specs.Entry.{frame_bytes};
+ghost use Rattle.gl_entry.specs.SignedMessage.{signed_message};
 ghost use Rattle.gl_requests.specs.Ranges.{is_genesis};
 ghost use Rattle.gl_gov_rules.specs.History.{no_history};
 ghost use Rattle.gl_gov_rules.specs.Refusals.{genesis_refusal};
-ghost use Rattle.gl_consortium.specs.ExpectedOutput.{first_endorsement, first_id, founding_fault, id_of, is_accepted, is_first_node, opening_bytes};
+ghost use Rattle.gl_ledger.specs.Ledger.{genesis_entry};
+ghost use Rattle.gl_ledger.specs.Tree.{leaves_of};
+ghost use Rattle.gl_consortium.specs.ExpectedOutput.{first_endorsement, first_id, founding_fault, id_of, is_accepted, is_first_node, opening_bytes, opening_entry};
 ghost use Rattle.gl_consortium.specs.Faults.{IsOfFounding};
 
 use crate::fault::SigningFault;
@@ -97,18 +102,7 @@ pub(crate) fn check_accepted(
 
 /// The entry of the signature that opens a service.
 fn opening_entry(alloc: Global, node: NodeId, root: Digest, signature: Vec<u8>) -> Entry
-    ensures { result ≡ record {
-      view = 2;
-      seqno = 2;
-      content = Content.Signature (record {
-        node = node;
-        commit = 2;
-        root = root;
-        signature = signature.items;
-      });
-      writes = [];
-      claims = no_digest;
-    } }
+    ensures { result ≡ opening_entry node root signature.items }
 {
     Entry {
         view: FIRST_VIEW,
@@ -124,6 +118,51 @@ fn opening_entry(alloc: Global, node: NodeId, root: Digest, signature: Vec<u8>) 
     }
 }
 
+/// The frame of the entry that founds a service, and the root of the tree with its leaf.
+#[derive(Drop)]
+struct FirstFrame {
+    bytes: Vec<u8>,
+    root: Digest,
+}
+
+/// The first frame of a genesis that is accepted.
+fn first_frame(alloc: Global, genesis: Genesis) -> Result<FirstFrame, AllocError>
+    requires fits { is_genesis genesis ≡ true }
+    requires accepted { genesis_refusal no_history genesis ≡ None }
+    ensures bytes { IfOk result (λ first.
+        first.bytes.items ≡ frame_bytes (genesis_entry genesis)) }
+    ensures root { IfOk result (λ first.
+        first.root ≡ root_of (leaves_of (genesis_entry genesis ∷ []))) }
+{
+    let mut store = Store::new(alloc)?;
+    store.found(genesis)?;
+    let bytes = store.entries()[0].encode(alloc)?;
+    Ok(FirstFrame {
+        bytes,
+        root: store.root(),
+    })
+}
+
+/// The frame of the signature that opens a service, over a root, by a leaf of a key with this
+/// endorsement.
+fn signature_frame(
+    alloc: Global,
+    by: LmsKey,
+    leaf: u32,
+    endorsement: Vec<u8>,
+    root: Digest,
+) -> Result<Vec<u8>, AllocError>
+    requires leaf { leaf < 2 ^ height by.types }
+    requires short { length endorsement.items ≤ 2508 }
+    ensures { IfOk result (λ frame. frame.items ≡ frame_bytes (opening_entry (id_of by) root
+        (hss_signature by (Some endorsement.items) leaf (signed_message root 2 2 2)))) }
+{
+    let node = id_of(&by);
+    let message = signed_message(&root, FIRST_VIEW, OPENING_SEQNO, OPENING_SEQNO);
+    let signature = hss_signature(by, Some(endorsement), leaf, &message)?;
+    opening_entry(alloc, node, root, signature).encode(alloc)
+}
+
 /// The frames of the opening ledger of a genesis that is accepted, signed by a leaf of a key.
 #[tactic(auto, unfolding(crate::specs::ExpectedOutput::opening_bytes))]
 pub(crate) fn opening_bytes(
@@ -137,15 +176,10 @@ pub(crate) fn opening_bytes(
     requires accepted { genesis_refusal no_history genesis ≡ None }
     ensures { IfOk result (λ reported. reported.items ≡ opening_bytes by leaf genesis) }
 {
-    let node = id_of(&by);
     let endorsement = first_endorsement(alloc, genesis.nodes.as_slice())?;
-    let mut store = Store::new(alloc)?;
-    store.found(genesis)?;
-    let root = store.root();
-    let message = signed_message(&root, FIRST_VIEW, OPENING_SEQNO, OPENING_SEQNO);
-    let signature = hss_signature(by, Some(endorsement), leaf, &message)?;
-    let opening = opening_entry(alloc, node, root, signature);
-    let mut reported = store.entries()[0].encode(alloc)?;
-    put_bytes(&mut reported, &opening.encode(alloc)?)?;
+    let FirstFrame { bytes, root } = first_frame(alloc, genesis)?;
+    let mut reported = bytes;
+    let opening = signature_frame(alloc, by, leaf, endorsement, root)?;
+    put_bytes(&mut reported, &opening)?;
     Ok(reported)
 }

@@ -143,6 +143,23 @@ ends_with : (es : List Entry) (e : Entry) → 0 < length es → entry_at es (len
 ends_with [] e some at = absurd (omega (arith, some))
 ends_with (x ∷ xs) e some at = ap (slice_get (x ∷ xs)) (let last : length (x ∷ xs) - 1 ≡ length xs = omega arith in last) ∙ at
 
+-- ---- the rows of governance in a snapshot
+
+-- they are left by the requests of the ledger
+rows_kept : (ledger : List Entry) → IsRead ledger → IsLeft (snapshot_of ledger).base (snapshot_of ledger).rows (requests_of ledger)
+rows_kept ledger all =
+    let counted : (snapshot_of ledger).base ≡ length ledger = omega arith in
+    is_left ledger all.tables (snapshot_of ledger).base counted (small (snapshot_of ledger).base (length ledger) counted all.named)
+  where
+    small : (n m : ℕ) → n ≡ m → m ≤ last_seqno → n < 2 ^ 64
+    small n m is low = omega (arith, is, low)
+
+-- so they spell
+pub rows_spelled : (ledger : List Entry) → 0 < length ledger → IsRead ledger → (g : GovernedRows) × (governed_rows (snapshot_of ledger).base (snapshot_of ledger).rows ≡ Ok g)
+rows_spelled ledger some all =
+    let left = rows_kept ledger all in
+    always_read (requests_of ledger) all.governed (snapshot_of ledger).base left.low left.fits (all.founded some) (snapshot_of ledger).rows left.left
+
 -- ---- a ledger and its snapshot
 
 module _ (below es : List Entry) (some : 0 < length below) (ends : IsSignedUpTo below (length below)) (first : IsRead below) (all : IsRead (below ++ es)) where
@@ -155,14 +172,11 @@ module _ (below es : List Entry) (some : 0 < length below) (ends : IsSignedUpTo 
   high : 0 < body.base
   high = omega (arith, some)
 
-  small : (n m : ℕ) → n ≡ m → m ≤ last_seqno → n < 2 ^ 64
-  small n m is low = omega (arith, is, low)
-
   left : IsLeft body.base body.rows (requests_of below)
-  left = is_left below first.tables body.base counted (small body.base (length below) counted first.named)
+  left = rows_kept below first
 
   read : (g : GovernedRows) × (governed_rows body.base body.rows ≡ Ok g)
-  read = always_read (requests_of below) first.governed body.base left.low left.fits (first.founded some) body.rows left.left
+  read = rows_spelled below some first
 
   begun : governed_base body ≡ Some read.0
   begun = base_read body read.0 high read.1

@@ -166,7 +166,7 @@ module _ (layers : Layers) (body : Body) (es ledger : List Entry) (holds : Holds
   pub held_view : (seqno : ℕ) → 0 < seqno → view_at body es seqno ≡ option_map (λ (e : Entry). e.view) (entry_at ledger seqno)
   held_view seqno some =
       let read = is_read layers (length below) below holds.base.valid in
-      of_body (λ (b : Body) (l : List Entry). view_at b es seqno ≡ option_map (λ (e : Entry). e.view) (entry_at l seqno)) (view_told below es read.counted read.first seqno some)
+      of_body (λ (b : Body) (l : List Entry). view_at b es seqno ≡ option_map (λ (e : Entry). e.view) (entry_at l seqno)) (view_told below es read.in_order.seqnos read.first seqno some)
 
   pub held_snapshot : snapshot_over body es ≡ snapshot_of ledger
   held_snapshot = of_body (λ (b : Body) (l : List Entry). snapshot_over b es ≡ snapshot_of l) (snapshot_told below es)

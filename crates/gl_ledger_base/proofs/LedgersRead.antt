@@ -1,6 +1,6 @@
 -- What is known of a ledger in whose audit the entries up to a base count as signatures, and which
 -- finds no fault: all that is known of a valid one but where signatures stand.
-use Rattle.std.proofs.Common.{◌≡◌, ⊎_elim, ℕ, zero, suc, ◌+◌, ◌<◌, ◌≤◌, nat_lt, nat_le, max, min, List, [], ◌∷◌, ◌++◌, length, slice_get, Option, Some, None, Result, Ok, Err, Bool, true, false, not, ◌&&◌, ◌||◌, ◌==◌, if◌then◌else◌, option_map, refl, sym, ◌∙◌, ap, subst, arith, length-append}
+use Rattle.std.proofs.Common.{◌≡◌, ⊎_elim, ℕ, zero, suc, ◌+◌, ◌-◌, ◌<◌, ◌≤◌, nat_lt, nat_le, max, min, List, [], ◌∷◌, ◌++◌, length, slice_get, Option, Some, None, Result, Ok, Err, Bool, true, false, not, ◌&&◌, ◌||◌, ◌==◌, if◌then◌else◌, option_map, refl, sym, ◌∙◌, ap, subst, arith, length-append}
 use Rattle.std.specs.List.{AllByRecursion}
 use Rattle.std.proofs.lemmas.Bool.{and_parts}
 use Rattle.std.proofs.lemmas.Bool.Decides.{nat_tests}
@@ -40,6 +40,7 @@ use Rattle.gl_ledger.specs.Broken.{are_same_writes, broken_by, broken_in_state, 
 use Rattle.gl_ledger.specs.Layers.{Layers}
 use Rattle.gl_ledger.specs.Past.{commit_after, is_begun, last_commit, last_of, past_from, signs_at}
 use Rattle.gl_ledger.specs.Recordings.{application_recording, governance_recording, is_founding, is_recovering, last_entry, recording_of, requests_of}
+use Rattle.gl_ledger.specs.Serial.{IsLedger}
 use Rattle.gl_ledger.specs.ServiceRow.{service_state}
 use Rattle.gl_ledger.specs.Snapshot.{greatest_from, greatest_with}
 use Rattle.gl_ledger.specs.Sound.{HasGovernedTables}
@@ -50,7 +51,7 @@ use Rattle.gl_ledger.specs.declared.recording.Recording.TheVariants as recording
 use Rattle.gl_ledger.proofs.Applications.{run_outside}
 use Rattle.gl_ledger.proofs.Gathering.{requests-more, requests-quiet}
 use Rattle.gl_ledger.proofs.Governed.{above}
-use Rattle.gl_ledger.proofs.Growth.{IsNoGovernance, IsOutside, untouched}
+use Rattle.gl_ledger.proofs.Growth.{IsNoGovernance, IsOutside, in_order-push, untouched}
 use Rattle.gl_ledger.proofs.Passing.{passed, PassesAfter}
 use Rattle.gl_ledger.proofs.Pushes.{no_last}
 use Rattle.gl_ledger.proofs.RequestEncodings.{request_in-encoded}
@@ -69,7 +70,7 @@ pub record IsRead (ledger : List Entry) : Type 0 where
   pub founded : 0 < length ledger → is_nothing (requests_of ledger) ≡ false
   pub greatest : greatest_from 0 ledger ≡ last_commit ledger
   pub within : last_commit ledger ≤ length ledger
-  pub counted : (i : ℕ) (e : Entry) → slice_get ledger i ≡ Some e → e.seqno ≡ suc i
+  pub in_order : IsLedger ledger
   pub first : (e : Entry) → slice_get ledger 0 ≡ Some e → e.view ≡ first_view
   pub named : length ledger ≤ last_seqno
 
@@ -280,6 +281,21 @@ module _ (layers : Layers) (base : ℕ) (ledger : List Entry) (e : Entry) (all :
   place : e.seqno ≡ suc (length ledger)
   place = let h = p.seqno in let u : e.seqno ≡ length ledger + 1 = grind (arith, nat_tests, h) in omega (arith, u)
 
+  -- no view before it is above its own
+  up : (i : ℕ) (f : Entry) → slice_get ledger i ≡ Some f → f.view ≤ e.view
+  up i f at = go (last_entry ledger) refl p.view
+    where
+      next : (again : Bool) (before : ℕ) → (if again then e.view == before + 1 else nat_le before e.view) ≡ true → before ≤ e.view
+      next true before w = let one : e.view ≡ before + 1 = grind (arith, nat_tests, w) in omega (arith, one)
+      next false before w = grind (arith, nat_tests, w)
+
+      go : (o : Option Entry) → last_entry ledger ≡ o → is_next_view (option_map last_of o) p.recording e.view ≡ true → f.view ≤ e.view
+      go None is w = absurd (let none : slice_get ledger i ≡ None = ap (λ (l : List Entry). slice_get l i) (no_last ledger is) in cc)
+      go (Some last) is w =
+          let here = slice_get-within ledger i f at in
+          let low = all.in_order.views i (length ledger - 1) f last (omega (arith, here)) at is in
+          omega (arith, low, next (is_recovering p.recording) last.view w)
+
   all_read : IsRead (ledger ++ e ∷ [])
   all_read =
       let grown = grows e.content refl in
@@ -291,10 +307,7 @@ module _ (layers : Layers) (base : ℕ) (ledger : List Entry) (e : Entry) (all :
         founded = λ some. grown.founded;
         greatest = recorded.greatest;
         within = (let w = recorded.within in omega (arith, w, long));
-        counted = λ i f at. ⊎_elim
-            (λ (old : slice_get ledger i ≡ Some f). all.counted i f old)
-            (λ (new : (i ≡ length ledger) × (f ≡ e)). ap (λ (x : Entry). x.seqno) new.1 ∙ place ∙ ap suc (sym new.0))
-            (slice_get-push ledger e i f at);
+        in_order = in_order-push ledger e all.in_order p.fits place up;
         first = λ f at. ⊎_elim
             (λ (old : slice_get ledger 0 ≡ Some f). all.first f old)
             (λ (new : (0 ≡ length ledger) × (f ≡ e)). ap (λ (x : Entry). x.view) new.1 ∙ (founding_first (sym new.0)).1)
@@ -309,7 +322,7 @@ nothing_read = record {
   founded = λ some. absurd (omega (arith, some));
   greatest = refl;
   within = omega arith;
-  counted = λ i e at. absurd (cc);
+  in_order = record { fits = λ i e at. absurd (cc); seqnos = λ i e at. absurd (cc); views = λ i j e f le a b. absurd (cc) };
   first = λ e at. absurd (cc);
   named = omega arith;
 }

@@ -14,3 +14,4 @@ pub mod LedgersGuarded
 pub mod LedgersReads
 pub mod LedgersTrusted
 pub mod LedgersGrown
+pub mod LedgersReadable

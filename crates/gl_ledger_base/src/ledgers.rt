@@ -9,7 +9,9 @@ ghost use Rattle.gl_tx.specs.Run.{run};
 ghost use Rattle.gl_tx.specs.declared.request.Operation.{Operation};
 ghost use Rattle.gl_gov_rules.specs.declared.row.GovernedRows.{GovernedRows};
 ghost use Rattle.gl_gov_base.specs.Law.{IsOver};
+ghost use Rattle.gl_snapshot_body.specs.Body.{body_bytes, snapshot_limit};
 ghost use Rattle.gl_snapshot_body.specs.declared.body.Body.{Body};
+ghost use Rattle.gl_ledger.specs.Behind.{IsBaseBody, IsReadBody};
 ghost use Rattle.gl_ledger.specs.Audit.{audited, audited_over};
 ghost use Rattle.gl_ledger.specs.Broken.{broken_after, broken_from, broken_over, may_record};
 ghost use Rattle.gl_ledger.specs.Layers.{Layers};
@@ -94,7 +96,8 @@ pub fn law_of_alike()
 /// A valid ledger that ends with a signature is the base of its snapshot. So is a ledger that a
 /// body and entries stand for, where these break no rule and it ends with a signature: a snapshot
 /// taken from a node with a base is one again. What breaks no rule breaks none where more entries
-/// count as signatures, and without a base none counts.
+/// count as signatures, and without a base none counts. The body of a base can be read, where it is
+/// within the limit of its size: its fields are in their ranges, and its rows of governance spell.
 pub fn law_of_bases()
     ensures whole { (layers : Layers) (ledger : List Entry) →
         audited layers ledger ≡ None → IsSignedUpTo ledger (length ledger) →
@@ -107,4 +110,9 @@ pub fn law_of_bases()
         audited_from layers more ledger ≡ None }
     ensures no_base { (layers : Layers) (ledger : List Entry) →
         audited_from layers 0 ledger ≡ None ↔ audited layers ledger ≡ None }
+    ensures readable { (layers : Layers) (body : Body) (ledger : List Entry) →
+        IsBase layers body ledger → 0 < body.base → length (body_bytes body) ≤ snapshot_limit →
+        IsBaseBody body }
+    ensures read { (layers : Layers) (body : Body) (ledger : List Entry) →
+        IsBase layers body ledger → length (body_bytes body) ≤ snapshot_limit → IsReadBody body }
 {}

@@ -10,13 +10,21 @@ use Rattle.gl_snapshot_body.specs.declared.body.Body.{Body}
 use Rattle.gl_replication.specs.declared.snapshots.Offer.{Offer}
 use Rattle.gl_replication.specs.declared.snapshots.Offer.TheVariants as offers
 
-module _ {Q G R A F : Type 0} where
+module _ {Q G R A F : Type 0} (shows : Body → Book Entry Q G R A F → List Entry → Type 0) where
+  -- The body is a snapshot of a ledger, under some rules.
+  abbrev pub IsShown : Body → Type 0
+  IsShown body = (b : Book Entry Q G R A F) × (log : List Entry) × shows body b log
+
+  -- A snapshot that is offered is one of a ledger.
+  abbrev pub IsOffer : Offer → Type 0
+  IsOffer (offers.Snapshot body) = IsShown body
+  IsOffer (offers.NoLaterSignature commit) = Unit {0}
+
   -- A node offers this, where such a body is a snapshot of such a ledger.
-  abbrev pub Offers : (Body → Book Entry Q G R A F → List Entry → Type 0) → Offer →
-      Book Entry Q G R A F → Node Entry → Type 0
-  Offers shows (offers.Snapshot body) b m =
+  abbrev pub Offers : Offer → Book Entry Q G R A F → Node Entry → Type 0
+  Offers (offers.Snapshot body) b m =
       (seqno : ℕ) × (snapshot_of b m ≡ Some seqno) × shows body b (take (seqno - 1) m.log)
-  Offers shows (offers.NoLaterSignature commit) b m = (snapshot_of b m ≡ None) × (commit ≡ m.commit)
+  Offers (offers.NoLaterSignature commit) b m = (snapshot_of b m ≡ None) × (commit ≡ m.commit)
 
 -- A node that begins with a ledger that came by a snapshot.
 abbrev pub begun_from : {E Q G R A F : Type 0} → Book E Q G R A F → List E → Node E → Node E

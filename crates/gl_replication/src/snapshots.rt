@@ -8,7 +8,7 @@ ghost use Rattle.gl_rules.specs.Node.{Node};
 ghost use Rattle.gl_rules.specs.Replication.{install, is_evidence_at};
 ghost use Rattle.gl_snapshot_body.specs.declared.body.Body.{Body as Summary};
 ghost use Rattle.gl_replication.specs.Holding.{from_snapshot};
-ghost use Rattle.gl_replication.specs.Offers.{Offers, begun_from};
+ghost use Rattle.gl_replication.specs.Offers.{IsOffer, IsShown, Offers, begun_from};
 ghost use Rattle.gl_replication.specs.Standing.{At, Stays};
 ghost use Rattle.gl_replication.specs.Stands.{Answers, KeepsAll, Reports, StandsFor, Stepped};
 
@@ -34,9 +34,10 @@ pub trait Snapshots: Book {
         ensures { IfOk result (λ body. At Self.stands self.now (λ b h.
             shows body b (take to h.log))) };
 
-    /// Begins from a snapshot, where no entry is there yet.
+    /// Begins from a snapshot of a ledger, where no entry is there yet.
     fn install(&mut self, body: Body) -> Result<(), AllocError>
         requires empty { At Self.stands self.old (λ b h. h.log ≡ []) }
+        requires shown { IsShown shows body }
         ensures begun { OnOk result (At Self.stands self.old (λ b h. (log : List Item) →
             shows body b log → Self.stands self.new b (from_snapshot h.me log))) }
         ensures err { OnErr result (Stays Self.stands self.old self.new) };
@@ -67,9 +68,10 @@ impl<B: Snapshots> Core<B> {
         }
     }
 
-    /// Begins from a snapshot, where no entry is there yet.
+    /// Begins from a snapshot of a ledger, where no entry is there yet.
     fn begin_from(&mut self, body: Body) -> Result<(), AllocError>
         requires empty { At B.stands self.old.book (λ b h. h.log ≡ []) }
+        requires shown { IsShown B.shows body }
         ensures begun { OnOk result (Reports B.stands self.old (λ b x n. (log : List Item) →
             B.shows body b log → StandsFor B.stands self.new b x (begun_from b log n))) }
         ensures err { OnErr result (KeepsAll B.stands self.old self.new) }
@@ -85,6 +87,7 @@ impl<B: Snapshots> Core<B> {
 
     /// A node without entries begins from what another one offers.
     pub fn install(&mut self, offer: Offer) -> Result<Done<B>, Refusal<B>>
+        requires offered { IsOffer B.shows offer }
         ensures steps { IfOk result (λ done. Reports B.stands self.old (λ b x n.
             (m : Node Item) → Offers B.shows offer b m →
             Stepped B.stands b x (install b m n) done self.new)) }

@@ -155,7 +155,7 @@ impl Decode for Rule {
     }
 }
 
-/// Reads a dealing, with its shares' digests after their count. Whether they ascend by member is not
+/// Reads a dealing, with its shares' digests after their count. Whether they ascend by member isn't
 /// asked.
 #[tactic(auto, unfolding(crate::specs::Parsing::dealing_at))]
 pub fn read_dealing(alloc: Global, cut: &mut Cut<'_>) -> Result<Dealing, OrNoMemory<CodeFault>>

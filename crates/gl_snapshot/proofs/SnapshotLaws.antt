@@ -19,6 +19,7 @@ use Rattle.gl_snapshot_body.specs.Body.{body_bytes, snapshot_limit}
 use Rattle.gl_snapshot_body.specs.declared.fault.ShapeFault.{ShapeFault}
 use Rattle.gl_snapshot.specs.Parsing.{no_limit, part_at, body_of, receipt_in_text, evidence_in, snapshot_at, decoded}
 use Rattle.gl_snapshot.specs.Snapshot.{IsSnapshot, file_bytes, receipt_text}
+use Rattle.gl_snapshot.specs.declared.snapshot.GovernedSnapshot.{GovernedSnapshot}
 use Rattle.gl_snapshot.specs.declared.snapshot.Snapshot.{Snapshot}
 use Rattle.gl_snapshot.proofs.Parts.{part-took, part-reads, body-encoded, body-reads, receipt-encoded, receipt-reads, evidence-encoded, evidence-reads}
 use Rattle.gl_snapshot.proofs.Sizes.{frame_small}
@@ -119,7 +120,7 @@ decoded-reads s is =
 
 -- ---- what a call gives that reads
 
-pub found : (r : Result Snapshot (OrNoMemory ShapeFault)) (bytes : List ℕ) → AreBytes bytes → Answers (λ snapshot. snapshot) r (decoded bytes)
-    → IfOk r (λ s. IsSnapshot s × (bytes ≡ file_bytes s))
-found (Ok s) bytes all given = decoded-encoded bytes s all given
+pub found : (r : Result GovernedSnapshot (OrNoMemory ShapeFault)) (bytes : List ℕ) → AreBytes bytes → Answers (λ read. read.snapshot) r (decoded bytes)
+    → IfOk r (λ read. IsSnapshot read.snapshot × (bytes ≡ file_bytes read.snapshot))
+found (Ok read) bytes all given = decoded-encoded bytes read.snapshot all given
 found (Err e) bytes all given = tt

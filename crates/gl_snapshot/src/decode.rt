@@ -2,14 +2,15 @@
 
 ghost use Rattle.std.specs.Prelude.{◌≡◌, ◌+◌, ◌^◌, ◌<◌, ◌≤◌, Ok, IfOk, length};
 ghost use Rattle.gl_base.specs.Answers.{Answers};
+ghost use Rattle.gl_gov_rules.specs.GovernedRows.{governed_rows};
 ghost use Rattle.gl_snapshot.specs.Snapshot.{IsSnapshot, file_bytes};
 ghost use Rattle.gl_snapshot.specs.Parsing.{part_at, snapshot_at, decoded};
 ghost use Rattle.gl_snapshot.specs.declared.snapshot.Snapshot.{Snapshot as SnapshotValue};
 
-use crate::body::{fault_at, read_governed_body};
+use crate::body::{GovernedBody, fault_at, read_governed_body};
 use crate::entry::read_evidence;
 use crate::receipt::read_receipt_text;
-use crate::snapshot::Snapshot;
+use crate::snapshot::{GovernedSnapshot, Snapshot};
 use gl_base::{CodeFault, Cut, OrNoMemory};
 use gl_snapshot_body::{SNAPSHOT_LIMIT, ShapeFault};
 use std::alloc::Global;
@@ -31,43 +32,53 @@ fn read_part<'a>(cut: &mut Cut<'a>, limit: u64) -> Result<(usize, &'a [u8]), OrN
 }
 
 #[tactic(auto, unfolding(crate::specs::Parsing::snapshot_at))]
-fn read_parts(alloc: Global, cut: &mut Cut<'_>) -> Result<Snapshot, OrNoMemory<ShapeFault>>
-    ensures { Answers (λ snapshot. (snapshot, cut.new)) result (snapshot_at cut.old) }
+fn read_parts(alloc: Global, cut: &mut Cut<'_>) -> Result<GovernedSnapshot, OrNoMemory<ShapeFault>>
+    ensures exact { Answers (λ read. (read.snapshot, cut.new)) result (snapshot_at cut.old) }
+    ensures governed { IfOk result (λ read.
+        governed_rows read.snapshot.body.base read.snapshot.body.rows ≡ Ok read.governed) }
 {
     let (place, bytes) = read_part(cut, SNAPSHOT_LIMIT)?;
-    let body = read_governed_body(alloc, place + 4, bytes)?;
+    let GovernedBody { body, governed } = read_governed_body(alloc, place + 4, bytes)?;
     let (place, text) = read_part(cut, NO_LIMIT)?;
     let receipt = read_receipt_text(alloc, place, text)?;
     let (place, frame) = read_part(cut, NO_LIMIT)?;
     let entry = read_evidence(alloc, body.base, place, frame)?;
-    Ok(Snapshot {
+    let snapshot = Snapshot {
         body,
         receipt,
         entry,
-    })
+    };
+    Ok(GovernedSnapshot { snapshot, governed })
 }
 
-fn read_all(alloc: Global, bytes: &[u8]) -> Result<Snapshot, OrNoMemory<ShapeFault>>
-    ensures { Answers (λ snapshot. snapshot) result (decoded bytes.now) }
+fn read_all(alloc: Global, bytes: &[u8]) -> Result<GovernedSnapshot, OrNoMemory<ShapeFault>>
+    ensures exact { Answers (λ read. read.snapshot) result (decoded bytes.now) }
+    ensures governed { IfOk result (λ read.
+        governed_rows read.snapshot.body.base read.snapshot.body.rows ≡ Ok read.governed) }
 {
     let mut cut = Cut::new(bytes);
-    let snapshot = read_parts(alloc, &mut cut)?;
+    let read = read_parts(alloc, &mut cut)?;
     if !cut.rest().is_empty() {
         return Err(fault_at(cut.at()));
     }
-    Ok(snapshot)
+    Ok(read)
 }
 
 impl Snapshot {
-    /// The snapshot that is all of the bytes, or the place of the first fault from the left.
-    pub fn decode(alloc: Global, bytes: &[u8]) -> Result<Self, OrNoMemory<ShapeFault>>
+    /// The snapshot that is all of the bytes, with its rows of governance as values, or the place
+    /// of the first fault from the left.
+    pub fn decode(alloc: Global, bytes: &[u8]) -> Result<GovernedSnapshot, OrNoMemory<ShapeFault>>
         // What is read is encoded so.
-        ensures found { IfOk result (λ s. IsSnapshot s × (bytes.now ≡ file_bytes s)) }
+        ensures found { IfOk result (λ read.
+            IsSnapshot read.snapshot × (bytes.now ≡ file_bytes read.snapshot)) }
         // What is encoded so is read, unless memory runs out.
         ensures only { (s : SnapshotValue) → IsSnapshot s → bytes.now ≡ file_bytes s →
-            Answers (λ snapshot. snapshot) result (Ok s) }
+            Answers (λ read. read.snapshot) result (Ok s) }
         // Which fault it is.
-        ensures exact { Answers (λ snapshot. snapshot) result (decoded bytes.now) }
+        ensures exact { Answers (λ read. read.snapshot) result (decoded bytes.now) }
+        // The rows are those of the body.
+        ensures governed { IfOk result (λ read.
+            governed_rows read.snapshot.body.base read.snapshot.body.rows ≡ Ok read.governed) }
     {
         read_all(alloc, bytes)
     }

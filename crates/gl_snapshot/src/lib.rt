@@ -16,8 +16,8 @@ mod receipt;
 mod snapshot;
 mod verdict;
 
-pub use body::read_governed_body;
+pub use body::{GovernedBody, read_governed_body};
 pub use digest::body_digest;
 pub use fault::SnapshotFault;
 pub use laws::law_of_snapshots;
-pub use snapshot::Snapshot;
+pub use snapshot::{GovernedSnapshot, Snapshot};

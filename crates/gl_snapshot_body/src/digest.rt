@@ -21,10 +21,15 @@ use std::alloc::{AllocError, Global};
 /// How many rows there are, and how many bytes they have.
 #[derive(Drop)]
 struct RowCount {
-    rows: u32,
+    rows: u64,
     bytes: u64,
+    ghost least: { rows ≤ bytes },
     ghost limit: { bytes ≤ rows * 66695 },
+    ghost held: { rows ≤ 2 ^ 47 },
 }
+
+/// More rows than a process can address bytes.
+const ROW_LIMIT: u64 = 1 << 47;
 
 impl RowSink for RowCount {
     ghost took = { λ old rows new. Counted (old.rows, old.bytes) rows (new.rows, new.bytes) };
@@ -34,12 +39,12 @@ impl RowSink for RowCount {
     ghost further = { λ s t u rows more first then. counted_further
         (s.rows, s.bytes) (t.rows, t.bytes) (u.rows, u.bytes) rows more first then };
 
-    /// Counts a row. More rows than four bytes can count have no place in memory.
+    /// Counts a row. More than 2^47 rows have no place in memory.
     fn put(&mut self, map: &[u8], key: &[u8], value: &[u8]) -> Result<(), AllocError> {
-        let Some(rows) = self.rows.checked_add(1) else {
+        if self.rows >= ROW_LIMIT {
             return Err(AllocError);
-        };
-        self.rows = rows;
+        }
+        self.rows += 1;
         self.bytes += fields_len(map, key, value);
         Ok(())
     }
@@ -133,8 +138,8 @@ fn digest_after(head: &[u8], tables: &Tables, to: u64) -> Result<Digest, AllocEr
 
 /// The digest of the body with these fields and the rows of tables at a place, which is not below
 /// the compacted one; or how many bytes the body has, where no snapshot has so many. A body with
-/// 2^32 rows or views has no place in memory. Takes the time of the rows twice, and the memory of
-/// the other fields.
+/// 2^47 rows or 2^32 views has no place in memory. Takes the time of the rows twice, and the memory
+/// of the other fields.
 pub fn digest_of_body(
     alloc: Global,
     head: &BodyHead<'_>,
@@ -154,6 +159,7 @@ pub fn digest_of_body(
         return Err(OrNoMemory::Fault(size));
     }
     let mut bytes = Vec::new(alloc);
-    put_head(&mut bytes, head, count.rows)?;
+    // Each row has a byte at least, so that four bytes hold their count.
+    put_head(&mut bytes, head, count.rows as u32)?;
     Ok(digest_after(&bytes, tables, to)?)
 }

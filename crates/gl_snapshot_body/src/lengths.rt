@@ -17,6 +17,7 @@ pub(crate) fn fields_len(map: &[u8], key: &[u8], value: &[u8]) -> u64
     requires value { IsTrue (is_value value.now) }
     ensures exact { result ≡
         length (row_bytes (record { map = map.now; key = key.now; value = value.now })) }
+    ensures least { 1 ≤ result }
     ensures limit { result ≤ 66695 }
 {
     (map.len() + key.len()) as u64 + value.len() as u64 + 7

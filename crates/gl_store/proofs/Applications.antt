@@ -16,7 +16,7 @@ use Rattle.gl_entry.specs.Entry.{body_bytes, body_limit}
 use Rattle.gl_entry.specs.declared.entry.Content.TheVariants as content
 use Rattle.gl_entry.specs.declared.entry.Entry.{Entry}
 use Rattle.gl_requests.specs.declared.genesis.ServiceState.{ServiceState}
-use Rattle.gl_requests.specs.declared.genesis.ServiceState.TheVariants.{Open, Opening, WaitingForRecoveryShares}
+use Rattle.gl_requests.specs.declared.genesis.ServiceState.TheVariants.{Open}
 use Rattle.gl_ledger.specs.ServiceRow.{service_state}
 use Rattle.gl_ledger.specs.Ledger.{application_after, execute_after, execute_state, run_after, within_limits_after}
 use Rattle.gl_ledger.specs.Makers.{request_after, with_reply}
@@ -70,9 +70,3 @@ module _ (p : Past) (view : ℕ) (q : List Operation) (fits : is_request q ≡ t
   refused_run NoMemory w is_open h is = subst (Refuses (request_after p view q)) (sym is) tt
   refused_run (Fault abort) w is_open h is =
       subst (Refuses (request_after p view q)) (sym (is.2 ∙ ap (λ (r : Refusal). Fault r) is.1)) (ran_after is_open (Err abort) h)
-
-  -- in a service that isn't open none runs
-  pub closed_after : (s : ServiceState) → service_state p.tables ≡ s → (s ≡ Open → ⊥) → request_after p view q ≡ Err (ByStore (refusals.ServiceState s))
-  closed_after Open is closed = absurd (closed refl)
-  closed_after Opening is closed = asked ∙ ap (λ (s : ServiceState). with_reply (execute_state s p view q)) is
-  closed_after WaitingForRecoveryShares is closed = asked ∙ ap (λ (s : ServiceState). with_reply (execute_state s p view q)) is

@@ -1,4 +1,3 @@
-pub mod Recorded
 pub mod Tails
 pub mod Keys
 pub mod SignaturesAbove

@@ -1,40 +1,25 @@
--- The configurations of a ledger and the nodes that it records, with one more entry.
-use Rattle.std.proofs.Common.{◌≡◌, ℕ, zero, suc, ◌-◌, ◌≤◌, List, [], ◌∷◌, ◌++◌, length, map, take, Option, Some, None, Bool, true, false, if◌then◌else◌, refl, sym, ap, ap₂, subst, ◌∙◌, arith, nat_eq, true≢false, slice_get, length-append}
-use Rattle.std.specs.List.{filter}
+-- The configurations behind a base and the nodes that are recorded, with one more entry.
+use Rattle.std.proofs.Common.{◌≡◌, ⊎_elim, ℕ, zero, suc, ◌+◌, ◌-◌, ◌≤◌, ◌<◌, List, [], ◌∷◌, ◌++◌, length, map, take, Option, Some, None, Bool, true, false, nat_le, cond, if◌then◌else◌, refl, sym, ap, ap₂, subst, ◌∙◌, arith, nat_eq, true≢false, slice_get, length-append}
 use Rattle.std.specs.Cmp.Lexicographic.{bytes_decides, pointwise}
-use Rattle.std.proofs.lemmas.Bool.{and_from, and_parts}
+use Rattle.std.proofs.lemmas.Bool.{and_from, and_parts, cases_lt, le-leb, lt-leb}
 use Rattle.std.proofs.lemmas.List.{append-nil}
 use Rattle.gl_base.specs.Bytes.{same_bytes}
-use Rattle.gl_base.proofs.Lists.{slice_get-last, take-push, take-all}
+use Rattle.gl_base.proofs.Lists.{slice_get-last}
 use Rattle.gl_vmaps.proofs.SameValues.{same_bytes_self}
 use Rattle.gl_rules.specs.Identity.{NodeId}
 use Rattle.gl_config.specs.declared.configuration.Configuration.{Configuration}
-use Rattle.gl_config.specs.Active.{at_seqno, configurations_upto, configurations_of}
-use Rattle.gl_config.proofs.Ledgers.{configurations_of-cut, upto-configurations}
-use Rattle.gl_entry.specs.declared.entry.Content.{Content}
-use Rattle.gl_entry.specs.declared.entry.Content.TheVariants as content
-use Rattle.gl_entry.specs.declared.entry.Entry.{Entry}
+use Rattle.gl_config.specs.Active.{at_seqno}
 use Rattle.gl_gov_rules.specs.declared.change.Recorded.{Recorded}
-use Rattle.gl_gov_rules.specs.declared.change.RecordedNode.{RecordedNode}
-use Rattle.gl_gov_rules.specs.History.{History}
+use Rattle.gl_gov_rules.specs.declared.row.GovernedRows.{GovernedRows}
 use Rattle.gl_gov_rules.specs.Changes.{history}
+use Rattle.gl_gov_rules.specs.Governed.{up_to}
+use Rattle.gl_gov_rules.specs.GovernedRows.{history_over}
 use Rattle.gl_gov_rules.specs.Nodes as nodes
-use Rattle.gl_ledger.specs.NodeKeys.{NodeKeys, service_layers}
-use Rattle.gl_ledger.specs.LedgerBook.{ServiceBook, ledger_book}
-use Rattle.gl_ledger.specs.Recordings.{same_nodes, changed_set, requests_of, recorded_nodes, trusted_nodes, configuration}
-use Rattle.gl_ledger.proofs.Configurations.{same_nodes_are, configuration_is, configuration_kept}
-use Rattle.gl_ledger.proofs.Gathering.{requests-quiet}
-use Rattle.gl_ledger.proofs.Growth as growth
-use Rattle.gl_ledger.proofs.Governed.{governed}
-use Rattle.gl_ledger.specs.Sound.{IsSound}
-use Rattle.gl_config.specs.NodeSet.{are_distinct}
-use Rattle.gl_store_book.specs.Lists.{AreConfigurationsOf, AreListsOf, IsListed, nodes_in, last_nodes}
-use Rattle.gl_store_book.specs.Taken.{IsNoGovernance}
-use Rattle.gl_audit.specs.Committed.{Held}
+use Rattle.gl_audit.specs.GovState.{Governed, governed_up_to, history_of, ungoverned}
+use Rattle.gl_ledger.specs.Recordings.{same_nodes, changed_set}
+use Rattle.gl_ledger.proofs.Configurations.{same_nodes_are}
+use Rattle.gl_store_book.specs.Lists.{AreListsBefore, AreListsOf, StandBehind, begun_at, configuration_at_base, configurations_behind, last_nodes, nodes_in, nodes_of, trusted_up_to}
 use Rattle.gl_store_book.specs.declared.node_lists.NodeLists.{NodeLists}
-use Rattle.gl_store_book.proofs.AnyKeys.{any_keys}
-use Rattle.gl_store_book.proofs.TrustedSets.{trusted_distinct}
-use Rattle.gl_store_book.proofs.RecordedPrefixes.{ids}
 
 -- ---- sets of nodes
 
@@ -42,69 +27,72 @@ same_nodes_self : (xs : List NodeId) → same_nodes xs xs ≡ true
 same_nodes_self [] = refl
 same_nodes_self (x ∷ xs) = and_from (same_bytes x x) (same_nodes xs xs) (same_bytes_self x) (same_nodes_self xs)
 
-unchanged : (xs : List NodeId) → changed_set xs xs ≡ None
+pub unchanged : (xs : List NodeId) → changed_set xs xs ≡ None
 unchanged xs = ap (λ (b : Bool). if b then None else Some xs) (same_nodes_self xs)
 
-changed : (before now : List NodeId) → (before ≡ now → ⊥) → changed_set before now ≡ Some now
+pub changed : (before now : List NodeId) → (before ≡ now → ⊥) → changed_set before now ≡ Some now
 changed before now other = go (same_nodes before now) refl
   where
     go : (b : Bool) → same_nodes before now ≡ b → (if b then None else Some now) ≡ Some now
     go true is = absurd (other (same_nodes_are before now is))
     go false is = refl
 
--- ---- one entry more
+stayed : (before now : List NodeId) → changed_set before now ≡ None → before ≡ now
+stayed before now none = go (same_nodes before now) refl none
+  where
+    go : (b : Bool) → same_nodes before now ≡ b → (if b then None else Some now) ≡ None → before ≡ now
+    go true is none = same_nodes_are before now is
+    go false is none = absurd (cc)
 
-abbrev book : NodeKeys → ServiceBook
-book keys = ledger_book service_layers keys
+came : (before now set : List NodeId) → changed_set before now ≡ Some set → set ≡ now
+came before now set some = go (same_nodes before now) some
+  where
+    go : (b : Bool) → (if b then None else Some now) ≡ Some set → set ≡ now
+    go true some = absurd (cc)
+    go false some = cc
 
-prefix_is : (ledger : List Entry) (e : Entry) → take (length ledger) (ledger ++ e ∷ []) ≡ ledger
-prefix_is ledger e = take-push ledger e (length ledger) (omega arith) ∙ take-all ledger
+-- ---- requests up to two seqnos
 
-pub configuration-push : (ledger : List Entry) (e : Entry) → configuration (ledger ++ e ∷ []) ≡ changed_set (trusted_nodes ledger) (trusted_nodes (ledger ++ e ∷ []))
-unfolding configuration
-configuration-push ledger e =
-    let long : length (ledger ++ e ∷ []) - 1 ≡ length ledger = let l = length-append ledger (e ∷ []) in omega arith in
-    ap (λ (before : List Entry). changed_set (trusted_nodes before) (trusted_nodes (ledger ++ e ∷ [])))
-    (ap (λ (n : ℕ). take n (ledger ++ e ∷ [])) long ∙ prefix_is ledger e)
+up_to_lower : (p q : ℕ) (rs : List Recorded) → p ≤ q → up_to p (up_to q rs) ≡ up_to p rs
+up_to_lower p q [] low = refl
+up_to_lower p q (r ∷ rs) low =
+    let again = up_to_lower p q rs low in
+    ⊎_elim
+    (λ (late : q < r.seqno). rw (lt-leb r.seqno q late, lt-leb r.seqno p (omega (arith, low, late))) again)
+    (λ (early : r.seqno ≤ q). rw (le-leb r.seqno q early) (ap (λ (xs : List Recorded). cond (nat_le r.seqno p) (r ∷ xs) xs) again))
+    (cases_lt q r.seqno)
 
--- at most one configuration comes with it
-pub configurations-push : (keys : NodeKeys) (ledger : List Entry) (e : Entry) →
-    configurations_of (book keys) (ledger ++ e ∷ [])
-    ≡ configurations_of (book keys) ledger ++ at_seqno (suc (length ledger)) (configuration (ledger ++ e ∷ []))
-unfolding configurations_upto
-configurations-push keys ledger e =
-    let more = ledger ++ e ∷ [] in
-    let long : length more ≡ suc (length ledger) = let l = length-append ledger (e ∷ []) in omega arith in
-    let all : take (suc (length ledger)) more ≡ more = ap (λ (n : ℕ). take n more) (sym long) ∙ take-all more in
-    let low : length ledger ≤ length more = omega (arith, long) in
-    ap (configurations_upto (book keys) more) long
-    ∙ ap₂ (λ (cs : List Configuration) (l : List Entry). cs ++ at_seqno (suc (length ledger)) (configuration l))
-    (sym (upto-configurations (book keys) more (length more) (length ledger) low)
-    ∙ sym (configurations_of-cut (book keys) more (length ledger) low)
-    ∙ ap (configurations_of (book keys)) (prefix_is ledger e))
-    all
+up_to_upper : (p q : ℕ) (rs : List Recorded) → p ≤ q → up_to q (up_to p rs) ≡ up_to p rs
+up_to_upper p q [] low = refl
+up_to_upper p q (r ∷ rs) low =
+    let again = up_to_upper p q rs low in
+    ⊎_elim
+    (λ (late : p < r.seqno). rw (lt-leb r.seqno p late) again)
+    (λ (early : r.seqno ≤ p). rw (le-leb r.seqno p early, le-leb r.seqno q (omega (arith, low, early))) (ap (λ (xs : List Recorded). r ∷ xs) again))
+    (cases_lt p r.seqno)
 
--- where the trusted nodes stay the same none comes
-pub configured_still : (ledger : List Entry) (e : Entry) (cs : List Configuration) → trusted_nodes ledger ≡ trusted_nodes (ledger ++ e ∷ []) →
-    AreConfigurationsOf ledger cs → AreConfigurationsOf (ledger ++ e ∷ []) cs
-configured_still ledger e cs same are keys =
-    let none : configuration (ledger ++ e ∷ []) ≡ None =
-    configuration-push ledger e ∙ ap (changed_set (trusted_nodes ledger)) (sym same) ∙ unchanged (trusted_nodes ledger) in
-    are keys ∙ sym (append-nil (configurations_of (book keys) ledger))
-    ∙ ap (λ (o : Option (List NodeId)). configurations_of (book keys) ledger ++ at_seqno (suc (length ledger)) o) (sym none)
-    ∙ sym (configurations-push keys ledger e)
+pub up_to_beyond : (p q : ℕ) (rs : List Recorded) → p ≤ q → up_to p rs ≡ rs → up_to q rs ≡ rs
+up_to_beyond p q rs low all = ap (up_to q) (sym all) ∙ up_to_upper p q rs low ∙ all
 
--- where they change the set of those that are trusted now is one
-pub configured_again : (ledger : List Entry) (e : Entry) (cs : List Configuration) → (trusted_nodes ledger ≡ trusted_nodes (ledger ++ e ∷ []) → ⊥) →
-    AreConfigurationsOf ledger cs →
-    AreConfigurationsOf (ledger ++ e ∷ []) (cs ++ record { seqno = length (ledger ++ e ∷ []); nodes = trusted_nodes (ledger ++ e ∷ []) } ∷ [])
-configured_again ledger e cs other are keys =
-    let now = trusted_nodes (ledger ++ e ∷ []) in
-    let long : length (ledger ++ e ∷ []) ≡ suc (length ledger) = let l = length-append ledger (e ∷ []) in omega arith in
-    let one : configuration (ledger ++ e ∷ []) ≡ Some now = configuration-push ledger e ∙ changed (trusted_nodes ledger) now other in
-    ap₂ (λ (us : List Configuration) (n : ℕ). us ++ record { seqno = n; nodes = now } ∷ []) (are keys) long
-    ∙ ap (λ (o : Option (List NodeId)). configurations_of (book keys) ledger ++ at_seqno (suc (length ledger)) o) (sym one)
-    ∙ sym (configurations-push keys ledger e)
+pub governed_lower : (p q : ℕ) (g : Governed) → p ≤ q → governed_up_to p (governed_up_to q g) ≡ governed_up_to p g
+governed_lower p q g low = ap (λ (rs : List Recorded). record g { requests = rs }) (up_to_lower p q g.requests low)
+
+pub governed_all : (seqno : ℕ) (g : Governed) → up_to seqno g.requests ≡ g.requests → governed_up_to seqno g ≡ g
+governed_all seqno g all = ap (λ (rs : List Recorded). record g { requests = rs }) all
+
+trusted_lower : (p q : ℕ) (g : Governed) → p ≤ q → trusted_up_to (governed_up_to q g) p ≡ trusted_up_to g p
+trusted_lower p q g low = ap (λ (x : Governed). nodes.trusted (history_of x)) (governed_lower p q g low)
+
+trusted_all : (seqno : ℕ) (g : Governed) → up_to seqno g.requests ≡ g.requests → trusted_up_to g seqno ≡ nodes.trusted (history_of g)
+trusted_all seqno g all = ap (λ (x : Governed). nodes.trusted (history_of x)) (governed_all seqno g all)
+
+-- the configurations of the first entries read no request above
+pub behind_lower : (base : ℕ) (g : Governed) (n k : ℕ) → n ≤ k → configurations_behind base (governed_up_to (base + k) g) n ≡ configurations_behind base g n
+unfolding configurations_behind
+behind_lower base g zero k low = ap (configuration_at_base base) (trusted_lower base (base + k) g (omega arith))
+behind_lower base g (suc n) k low =
+    ap₂ (λ (cs : List Configuration) (o : Option (List NodeId)). cs ++ at_seqno (base + suc n) o) (behind_lower base g n k (omega (arith, low)))
+    (ap₂ changed_set (trusted_lower (base + suc n - 1) (base + k) g (omega (arith, low))) (trusted_lower (base + suc n) (base + k) g (omega (arith, low))))
 
 -- ---- the last configuration
 
@@ -113,108 +101,80 @@ last_of_push cs c =
     let long : length (cs ++ c ∷ []) - 1 ≡ length cs = let l = length-append cs (c ∷ []) in omega arith in
     ap (λ (n : ℕ). nodes_in (slice_get (cs ++ c ∷ []) n)) long ∙ ap nodes_in (slice_get-last cs c)
 
-none_trusted : trusted_nodes [] ≡ []
-unfolding trusted_nodes nodes.trusted nodes.nodes history
+none_trusted : nodes.trusted (history_over None []) ≡ []
+unfolding nodes.trusted nodes.nodes history
 none_trusted = refl
 
-last_trusted : (keys : NodeKeys) (ledger : List Entry) (n : ℕ) → n ≤ length ledger →
-    last_nodes (configurations_upto (book keys) ledger n) ≡ trusted_nodes (take n ledger)
-unfolding configurations_upto
-last_trusted keys ledger zero low = sym none_trusted
-last_trusted keys ledger (suc n) low = go (configuration (take (suc n) ledger)) refl (last_trusted keys ledger n (omega (arith, low)))
+none_at_first : (base : ℕ) (g : Governed) (count : ℕ) → StandBehind base g count → base ≡ 0 → trusted_up_to g 0 ≡ []
+none_at_first base g count stand zero_base =
+    ap₂ (λ (o : Option GovernedRows) (rs : List Recorded). nodes.trusted (history_over o rs)) (stand.unfounded zero_base)
+    (ap (λ (n : ℕ). up_to n g.requests) (sym zero_base) ∙ stand.behind)
+    ∙ none_trusted
+
+-- it has the nodes that are trusted
+last_trusted : (base : ℕ) (g : Governed) (n : ℕ) → (base ≡ 0 → trusted_up_to g 0 ≡ []) → last_nodes (configurations_behind base g n) ≡ trusted_up_to g (base + n)
+unfolding configurations_behind
+last_trusted zero g zero none = sym (none refl)
+last_trusted (suc b) g zero none = let same : suc b ≡ suc b + 0 = omega arith in ap (trusted_up_to g) same
+last_trusted base g (suc n) none = go (begun_at base g (base + suc n)) refl (last_trusted base g n none)
   where
-    go : (o : Option (List NodeId)) → configuration (take (suc n) ledger) ≡ o → last_nodes (configurations_upto (book keys) ledger n) ≡ trusted_nodes (take n ledger) →
-        last_nodes (configurations_upto (book keys) ledger n ++ at_seqno (suc n) o) ≡ trusted_nodes (take (suc n) ledger)
-    go None is before = ap last_nodes (append-nil (configurations_upto (book keys) ledger n)) ∙ before ∙ configuration_kept ledger n low is
+    here : base + suc n - 1 ≡ base + n
+    here = omega arith
+
+    go : (o : Option (List NodeId)) → begun_at base g (base + suc n) ≡ o → last_nodes (configurations_behind base g n) ≡ trusted_up_to g (base + n) →
+        last_nodes (configurations_behind base g n ++ at_seqno (base + suc n) o) ≡ trusted_up_to g (base + suc n)
+    go None is before =
+        ap last_nodes (append-nil (configurations_behind base g n)) ∙ before
+        ∙ ap (trusted_up_to g) (sym here) ∙ stayed (trusted_up_to g (base + suc n - 1)) (trusted_up_to g (base + suc n)) is
     go (Some set) is before =
-        last_of_push (configurations_upto (book keys) ledger n) (record { seqno = suc n; nodes = set })
-        ∙ configuration_is (take (suc n) ledger) set is
+        last_of_push (configurations_behind base g n) (record { seqno = base + suc n; nodes = set })
+        ∙ came (trusted_up_to g (base + suc n - 1)) (trusted_up_to g (base + suc n)) set is
 
--- the nodes of the last configuration are those that are trusted
-pub trusted_last : (ledger : List Entry) (cs : List Configuration) → AreConfigurationsOf ledger cs → last_nodes cs ≡ trusted_nodes ledger
-trusted_last ledger cs are =
-    ap last_nodes (are any_keys) ∙ last_trusted any_keys ledger (length ledger) (omega arith) ∙ ap trusted_nodes (take-all ledger)
+-- ---- one entry more
 
--- ---- entries that record no request
+-- where it adds what begins with it
+pub configured_next : (base count seqno : ℕ) (g : Governed) (lists : NodeLists) → seqno ≡ base + suc count → AreListsBefore base count g lists →
+    lists.configurations.items ++ at_seqno seqno (changed_set (last_nodes lists.configurations.items) (nodes.trusted (history_of g))) ≡ configurations_behind base g (suc count)
+unfolding configurations_behind
+configured_next base count seqno g lists at before =
+    let cs : lists.configurations.items ≡ configurations_behind base g count = before.listed.configured ∙ behind_lower base g count count (omega arith) in
+    let here : base + count ≡ base + suc count - 1 = omega arith in
+    let last : last_nodes lists.configurations.items ≡ trusted_up_to g (base + suc count - 1) =
+    ap last_nodes cs ∙ last_trusted base g count (none_at_first base g (suc count) before.stand) ∙ ap (trusted_up_to g) here in
+    let now : nodes.trusted (history_of g) ≡ trusted_up_to g (base + suc count) = sym (trusted_all (base + suc count) g before.stand.within) in
+    ap₂ (λ (us : List Configuration) (s : ℕ). us ++ at_seqno s (changed_set (last_nodes lists.configurations.items) (nodes.trusted (history_of g)))) cs at
+    ∙ ap₂ (λ (x y : List NodeId). configurations_behind base g count ++ at_seqno (base + suc count) (changed_set x y)) last now
 
-as_there : (c : Content) → IsNoGovernance c → growth.IsNoGovernance c
-as_there (content.Governance bytes) h = h
-as_there (content.Application bytes) h = tt
-as_there (content.Signature s) h = tt
-as_there (content.Evidence d) h = tt
-
-trusted_quiet : (ledger : List Entry) (e : Entry) → IsNoGovernance e.content → trusted_nodes (ledger ++ e ∷ []) ≡ trusted_nodes ledger
-unfolding trusted_nodes
-trusted_quiet ledger e quiet = ap (λ (rs : List Recorded). nodes.trusted (history rs)) (requests-quiet ledger e (as_there e.content quiet))
-
-recorded_quiet : (ledger : List Entry) (e : Entry) → IsNoGovernance e.content → recorded_nodes (ledger ++ e ∷ []) ≡ recorded_nodes ledger
-unfolding recorded_nodes
-recorded_quiet ledger e quiet = ap (λ (rs : List Recorded). ids (nodes.nodes (history rs))) (requests-quiet ledger e (as_there e.content quiet))
-
--- they leave the lists as they are
-pub listed_quiet : (ledger : List Entry) (e : Entry) (lists : NodeLists) → IsNoGovernance e.content → AreListsOf ledger lists → AreListsOf (ledger ++ e ∷ []) lists
-listed_quiet ledger e lists quiet are = record {
-  configured = configured_still ledger e lists.configurations.items (sym (trusted_quiet ledger e quiet)) are.configured;
-  recorded = are.recorded ∙ sym (recorded_quiet ledger e quiet);
-}
+-- where no request comes with it both stay
+pub listed_quiet : (base count : ℕ) (g : Governed) (lists : NodeLists) → up_to (base + count) g.requests ≡ g.requests → AreListsOf base g count lists → AreListsOf base g (suc count) lists
+unfolding configurations_behind
+listed_quiet base count g lists within are =
+    let here : base + suc count - 1 ≡ base + count = omega arith in
+    let before : trusted_up_to g (base + suc count - 1) ≡ nodes.trusted (history_of g) = ap (trusted_up_to g) here ∙ trusted_all (base + count) g within in
+    let now : trusted_up_to g (base + suc count) ≡ nodes.trusted (history_of g) =
+    trusted_all (base + suc count) g (up_to_beyond (base + count) (base + suc count) g.requests (omega arith) within) in
+    let none : begun_at base g (base + suc count) ≡ None = ap₂ changed_set before now ∙ unchanged (nodes.trusted (history_of g)) in
+    record {
+      configured = are.configured ∙ sym (append-nil (configurations_behind base g count))
+          ∙ ap (λ (o : Option (List NodeId)). configurations_behind base g count ++ at_seqno (base + suc count) o) (sym none);
+      recorded = are.recorded;
+    }
 
 -- ---- no entries
 
-none_configured : AreConfigurationsOf [] []
-unfolding configurations_upto
-none_configured keys = refl
-
-none_recorded : recorded_nodes [] ≡ []
-unfolding recorded_nodes nodes.nodes history
+none_recorded : nodes_of ungoverned ≡ []
+unfolding nodes.nodes history
 none_recorded = refl
 
-pub listed_none : (lists : NodeLists) → lists.configurations.items ≡ [] → lists.recorded.items ≡ [] → AreListsOf [] lists
+none_configured : configurations_behind 0 ungoverned 0 ≡ []
+unfolding configurations_behind
+none_configured = refl
+
+pub listed_none : (lists : NodeLists) → lists.configurations.items ≡ [] → lists.recorded.items ≡ [] → AreListsOf 0 ungoverned 0 lists
 listed_none lists none no_node = record {
-  configured = λ keys. none ∙ none_configured keys;
+  configured = none ∙ sym none_configured;
   recorded = no_node ∙ sym none_recorded;
 }
-
--- an entry that records no request and is after the last one
-pub listed_after : (old new : Held) (lists : NodeLists) (e : Entry) → IsNoGovernance e.content → new ≡ record old { ledger = old.ledger ++ e ∷ [] } →
-    IsListed old lists → IsListed new lists
-listed_after old new lists e quiet is kept = subst (λ (h : Held). IsListed h lists) (sym is) (record {
-  listed = listed_quiet old.ledger e lists quiet kept.listed;
-  uncommitted = kept.uncommitted;
-})
-
--- where nothing is trusted no configuration begins
-pub none_begins : configuration [] ≡ None
-unfolding configuration
-none_begins = unchanged (trusted_nodes [])
-
--- ---- what is trusted, as the history tells
-
-abbrev pub trusted_of : History → List NodeId
-trusted_of past = map (λ (n : RecordedNode). n.id) (filter (λ (n : RecordedNode). nodes.is_trusted_status (nodes.node_status past n)) (nodes.nodes past))
-
-pub trusted_is : (ledger : List Entry) (past : History) → past ≡ history (requests_of ledger) → trusted_of past ≡ trusted_nodes ledger
-unfolding trusted_nodes nodes.trusted
-trusted_is ledger past is = ap trusted_of is
-
--- where the last configuration has them none begins
-pub pushed_none : (all ledger : List Entry) (e : Entry) (cs : List Configuration) (now : List NodeId) → now ≡ trusted_nodes all → all ≡ ledger ++ e ∷ [] → last_nodes cs ≡ now →
-    AreConfigurationsOf ledger cs → AreConfigurationsOf all cs
-pushed_none all ledger e cs now is more same are =
-    subst (λ (es : List Entry). AreConfigurationsOf es cs) (sym more)
-    (configured_still ledger e cs (sym (trusted_last ledger cs are) ∙ same ∙ is ∙ ap trusted_nodes more) are)
-
--- elsewhere one does
-pub pushed_one : (all ledger : List Entry) (e : Entry) (cs : List Configuration) (now : List NodeId) (seqno : ℕ) → now ≡ trusted_nodes all → seqno ≡ length all → all ≡ ledger ++ e ∷ [] →
-    (last_nodes cs ≡ now → ⊥) → AreConfigurationsOf ledger cs → AreConfigurationsOf all (cs ++ record { seqno = seqno; nodes = now } ∷ [])
-pushed_one all ledger e cs now seqno is at more other are =
-    let again = configured_again ledger e cs (λ same. other (trusted_last ledger cs are ∙ same ∙ sym (is ∙ ap trusted_nodes more))) are in
-    subst (λ (es : List Entry). AreConfigurationsOf es (cs ++ record { seqno = seqno; nodes = now } ∷ [])) (sym more)
-    (λ keys. ap₂ (λ (n : ℕ) (set : List NodeId). cs ++ record { seqno = n; nodes = set } ∷ []) (at ∙ ap (λ (es : List Entry). length es) more) (is ∙ ap trusted_nodes more) ∙ again keys)
-
--- they are distinct
-pub trusted_apart : (ledger : List Entry) → IsSound service_layers ledger → are_distinct (trusted_nodes ledger) ≡ true
-unfolding trusted_nodes
-trusted_apart ledger sound = trusted_distinct (requests_of ledger) (governed service_layers ledger sound)
 
 -- ---- lists that a test compares
 

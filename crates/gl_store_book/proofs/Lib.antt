@@ -8,6 +8,7 @@ pub mod Evidences
 pub mod AnyKeys
 pub mod Growing
 pub mod Cuts
+pub mod WholeLists
 pub mod Commits
 pub mod AllLedgers
 pub mod TakenEntries

@@ -5,12 +5,11 @@ use Rattle.std.proofs.lemmas.Bool.{and_from}
 use Rattle.gl_rules.specs.Identity.{NodeId, same, member}
 use Rattle.gl_rules.proofs.Ids.{same_is}
 use Rattle.gl_config.specs.NodeSet.{are_distinct}
-use Rattle.gl_gov_rules.specs.declared.change.Recorded.{Recorded}
 use Rattle.gl_gov_rules.specs.declared.change.RecordedNode.{RecordedNode}
 use Rattle.gl_gov_rules.specs.Nodes.{is_trusted_status, node_status, nodes, trusted}
-use Rattle.gl_gov_rules.specs.Changes.{history}
-use Rattle.gl_gov_rules.specs.Governed.{IsGoverned}
-use Rattle.gl_gov_rules.proofs.NewNodes.{AreDistinct, nodes_distinct}
+use Rattle.gl_gov_rules.proofs.NewNodes.{AreDistinct}
+use Rattle.gl_gov_base.proofs.NodesOver.{nodes_distinct_over}
+use Rattle.gl_audit.specs.GovState.{Governed, IsGoverned, history_of}
 
 module _ (p : RecordedNode → Bool) where
   -- the identifiers of those that pass a test
@@ -56,6 +55,7 @@ module _ (p : RecordedNode → Bool) where
       go true again = and_from (not (member n.id (chosen ns))) (are_distinct (chosen ns)) (alone (member n.id (chosen ns)) refl) again
       go false again = again
 
-pub trusted_distinct : (rs : List Recorded) → IsGoverned rs → are_distinct (trusted (history rs)) ≡ true
+pub trusted_distinct : (g : Governed) → IsGoverned g → are_distinct (trusted (history_of g)) ≡ true
 unfolding trusted
-trusted_distinct rs all = distinct_ids (λ (n : RecordedNode). is_trusted_status (node_status (history rs) n)) (nodes (history rs)) (nodes_distinct rs all)
+trusted_distinct g all =
+    distinct_ids (λ (n : RecordedNode). is_trusted_status (node_status (history_of g) n)) (nodes (history_of g)) (nodes_distinct_over g.base g.requests all.read all.accepted)

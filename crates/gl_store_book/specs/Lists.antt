@@ -1,13 +1,20 @@
--- What is kept of the nodes of a ledger beside it, so that no answer needs a scan.
-use Rattle.std.specs.Prelude.{◌≡◌, ◌-◌, List, [], Option, None, Some, length, slice_get}
+-- What is kept of the nodes of a ledger beside it, so that no answer needs a scan. It is told by the
+-- seqno of the ledger's base, the requests of governance behind that, and how many entries stand
+-- behind it.
+use Rattle.std.specs.Prelude.{◌≡◌, ℕ, zero, suc, ◌+◌, ◌-◌, List, [], ◌∷◌, ◌++◌, Option, None, Some, length, map, slice_get}
 use Rattle.gl_rules.specs.Identity.{NodeId}
-use Rattle.gl_config.specs.Active.{configurations_of}
+use Rattle.gl_config.specs.Active.{at_seqno, configurations_of}
 use Rattle.gl_config.specs.declared.configuration.Configuration.{Configuration}
 use Rattle.gl_entry.specs.declared.entry.Entry.{Entry}
+use Rattle.gl_gov_rules.specs.declared.change.RecordedNode.{RecordedNode}
+use Rattle.gl_gov_rules.specs.Governed.{up_to}
+use Rattle.gl_gov_rules.specs.GovernedRows.{IsBelow}
+use Rattle.gl_gov_rules.specs.Nodes.{nodes, trusted}
+use Rattle.gl_audit.specs.Committed.{Held}
+use Rattle.gl_audit.specs.GovState.{Governed, IsGoverned, governed_up_to, history_of}
 use Rattle.gl_ledger.specs.NodeKeys.{NodeKeys, service_layers}
 use Rattle.gl_ledger.specs.LedgerBook.{ledger_book}
-use Rattle.gl_ledger.specs.Recordings.{recorded_nodes}
-use Rattle.gl_audit.specs.Committed.{Held}
+use Rattle.gl_ledger.specs.Recordings.{changed_set, requests_of}
 use Rattle.gl_store_book.specs.declared.node_lists.NodeLists.{NodeLists}
 
 -- These are the configurations of a ledger, whatever keys its nodes have.
@@ -23,12 +30,55 @@ nodes_in (Some c) = c.nodes
 abbrev pub last_nodes : List Configuration → List NodeId
 last_nodes cs = nodes_in (slice_get cs (length cs - 1))
 
--- These are the configurations of a ledger and the nodes that it records.
-pub record AreListsOf (ledger : List Entry) (lists : NodeLists) : Type 0 where
-  pub configured : AreConfigurationsOf ledger lists.configurations.items
-  pub recorded : lists.recorded.items ≡ recorded_nodes ledger
+-- The nodes that are trusted after the requests up to a seqno.
+abbrev pub trusted_up_to : Governed → ℕ → List NodeId
+trusted_up_to g seqno = trusted (history_of (governed_up_to seqno g))
+
+-- The nodes that are recorded.
+abbrev pub nodes_of : Governed → List NodeId
+nodes_of g = map (λ (n : RecordedNode). n.id) (nodes (history_of g))
+
+-- The configuration in force at a base, where it is above 0.
+abbrev pub configuration_at_base : ℕ → List NodeId → List Configuration
+configuration_at_base zero set = []
+configuration_at_base (suc n) set = record { seqno = suc n; nodes = set } ∷ []
+
+module _ (base : ℕ) (g : Governed) where
+  -- The configuration that begins with the entry at a seqno above the base, if one does.
+  abbrev pub begun_at : ℕ → Option (List NodeId)
+  begun_at seqno = changed_set (trusted_up_to g (seqno - 1)) (trusted_up_to g seqno)
+
+  -- The one in force at the base, and those that begin with one of the first entries behind it, in
+  -- order.
+  unfoldable pub configurations_behind : ℕ → List Configuration
+  configurations_behind zero = configuration_at_base base (trusted_up_to g base)
+  configurations_behind (suc n) =
+      configurations_behind n ++ at_seqno (base + suc n) (begun_at (base + suc n))
+
+  -- The requests stand behind the base, in the first so many entries.
+  pub record StandBehind (count : ℕ) : Type 0 where
+    pub unfounded : base ≡ 0 → g.base ≡ None
+    pub below : IsBelow g.base base
+    pub governed : IsGoverned g
+    pub behind : up_to base g.requests ≡ []
+    pub within : up_to (base + count) g.requests ≡ g.requests
+
+  -- These are the configurations and the recorded nodes, where so many entries stand behind the
+  -- base.
+  pub record AreListsOf (count : ℕ) (lists : NodeLists) : Type 0 where
+    pub configured : lists.configurations.items ≡ configurations_behind count
+    pub recorded : lists.recorded.items ≡ nodes_of g
+
+-- They were these before the last of so many entries.
+pub record AreListsBefore (base count : ℕ) (g : Governed) (lists : NodeLists) : Type 0 where
+  pub stand : StandBehind base g (suc count)
+  pub listed : AreListsOf base (governed_up_to (base + count) g) count lists
+
+-- The requests of governance of a whole ledger.
+abbrev pub whole_governed : List Entry → Governed
+whole_governed ledger = record { base = None; requests = requests_of ledger }
 
 -- They are those of a store of which nothing is committed.
 pub record IsListed (store : Held) (lists : NodeLists) : Type 0 where
-  pub listed : AreListsOf store.ledger lists
+  pub listed : AreListsOf 0 (whole_governed store.ledger) (length store.ledger) lists
   pub uncommitted : store.commit ≡ 0

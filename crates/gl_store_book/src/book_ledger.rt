@@ -5,7 +5,7 @@ ghost use Rattle.gl_base.specs.Answers.{Fails};
 ghost use Rattle.gl_rules.specs.Replication.{checked_append};
 ghost use Rattle.gl_entry.specs.declared.entry.Entry as entries;
 ghost use Rattle.gl_audit.specs.Kept.{Breaks};
-ghost use Rattle.gl_store_book.specs.Lists.{AreListsOf};
+ghost use Rattle.gl_store_book.specs.Lists.{AreListsOf, whole_governed};
 
 use crate::node_lists::NodeLists;
 use crate::refusals::by_rule;
@@ -93,7 +93,8 @@ impl BookLedger {
     pub fn recorded_nodes(&self, upto: u64) -> &[NodeId]
         ensures { result.now ≡ recorded_nodes (take upto self.now) }
     {
-        self.lists.recorded_nodes(&self.store, upto)
+        let last = self.store.ledger_len();
+        self.lists.recorded_nodes(self.store.gov(), last, upto)
     }
 
     /// Adds an entry. Refused for the first rule of the audit that it breaks after the ledger, if
@@ -141,7 +142,7 @@ impl BookLedger {
         if to >= self.store.ledger_len() {
             return;
         }
-        self.lists.cut(&self.store, to);
+        self.lists.cut(self.store.gov(), to);
         self.store.cut(to);
     }
 
@@ -238,9 +239,11 @@ pub(crate) fn list_last(
     store: &mut Store,
 ) -> Result<(), AllocError>
     requires listed { (ledger : List entries.Entry) × (e : entries.Entry)
-        × (store.old.ledger ≡ ledger ++ e ∷ []) × AreListsOf ledger lists.old }
+        × (store.old.ledger ≡ ledger ++ e ∷ [])
+        × AreListsOf 0 (whole_governed ledger) (length ledger) lists.old }
     requires uncommitted { store.old.commit ≡ 0 }
-    ensures listed { OnOk result (AreListsOf store.new.ledger lists.new) }
+    ensures listed { OnOk result (AreListsOf 0 (whole_governed store.new.ledger)
+        (length store.new.ledger) lists.new) }
     ensures kept { OnOk result (store.new ≡ store.old) }
     ensures configurations { OnErr result
         (lists.new.configurations.items ≡ lists.old.configurations.items) }
@@ -249,9 +252,9 @@ pub(crate) fn list_last(
       ledger = take (length store.old.ledger - 1) store.old.ledger;
     }) }
 {
-    if let Err(error) = lists.push_last(alloc, store) {
-        let last = store.ledger_len() - 1;
-        store.cut(last);
+    let seqno = store.ledger_len();
+    if let Err(error) = lists.push_last(alloc, store.gov(), seqno) {
+        store.cut(seqno - 1);
         return Err(error);
     }
     Ok(())

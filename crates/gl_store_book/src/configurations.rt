@@ -1,15 +1,16 @@
 //! The configurations of a ledger.
 
-ghost use Rattle.std.specs.Prelude.{◌≡◌, ◌∷◌, ◌++◌, [], List, count_by, filter, map, nat_le, IfOk, OnOk, OnErr};
+ghost use Rattle.std.specs.Prelude.{◌≡◌, ◌++◌, count_by, nat_le, IfOk, OnOk, OnErr};
+ghost use Rattle.gl_audit.specs.GovState.{IsGoverned, history_of};
+ghost use Rattle.gl_config.specs.Active.{at_seqno};
 ghost use Rattle.gl_config.specs.declared.configuration.Configuration as a_configuration;
-ghost use Rattle.gl_entry.specs.declared.entry.Entry.{Entry};
-ghost use Rattle.gl_gov_rules.specs.declared.change.RecordedNode as a_node;
-ghost use Rattle.gl_gov_rules.specs.Nodes.{is_trusted_status, node_status, nodes};
-ghost use Rattle.gl_store_book.specs.Lists.{AreConfigurationsOf, last_nodes};
+ghost use Rattle.gl_gov_rules.specs.Nodes.{is_trusted_status, node_status, trusted};
+ghost use Rattle.gl_ledger.specs.Recordings.{changed_set};
+ghost use Rattle.gl_store_book.specs.Lists.{last_nodes};
 
+use gl_audit::GovState;
 use gl_config::{Configuration, NodeId, NodeSet};
 use gl_gov_rules::{History, NodeStatus, RecordedNode};
-use gl_store::Store;
 use std::alloc::{AllocError, Global};
 
 /// Whether a node is trusted.
@@ -20,10 +21,9 @@ pub(crate) fn is_trusted(past: &History, node: &RecordedNode) -> bool
 }
 
 /// The trusted nodes, in the order in which they were recorded.
+#[tactic(auto, unfolding(gl_gov_rules::specs::Nodes::trusted))]
 fn trusted_nodes(alloc: Global, past: &History) -> Result<Vec<NodeId>, AllocError>
-    ensures { IfOk result (λ ids. ids.items ≡ map (λ (n : a_node.RecordedNode). n.id) (filter
-        (λ (n : a_node.RecordedNode). is_trusted_status (node_status past.now n))
-        (nodes past.now))) }
+    ensures { IfOk result (λ ids. ids.items ≡ trusted past.now) }
 {
     let mut trusted = Vec::new(alloc);
     let nodes = past.nodes();
@@ -57,26 +57,26 @@ pub(crate) fn count_upto(configurations: &[Configuration], seqno: u64) -> usize
         .count()
 }
 
-/// Adds the configuration that begins with the last entry of a ledger, if that changes the set of
-/// trusted nodes.
+/// Adds the configuration that begins with the entry at a seqno, if the nodes that are trusted then
+/// are others than those of the last configuration.
 pub(crate) fn push_configuration(
     alloc: Global,
     configurations: &mut Vec<Configuration>,
-    store: &Store,
+    gov: &GovState,
+    seqno: u64,
 ) -> Result<(), AllocError>
-    ensures pushed { OnOk result ((ledger : List Entry) (e : Entry) →
-        store.now.ledger ≡ ledger ++ e ∷ [] →
-        AreConfigurationsOf ledger configurations.old.items →
-        AreConfigurationsOf store.now.ledger configurations.new.items) }
+    requires { IsGoverned gov.now }
+    ensures pushed { OnOk result (configurations.new.items ≡ configurations.old.items ++ at_seqno
+        seqno (changed_set (last_nodes configurations.old.items) (trusted (history_of gov.now)))) }
     ensures err { OnErr result (configurations.new.items ≡ configurations.old.items) }
 {
-    let trusted = trusted_nodes(alloc, store.gov().history())?;
-    if last_nodes(configurations) == trusted.as_slice() {
+    let nodes = trusted_nodes(alloc, gov.history())?;
+    if last_nodes(configurations) == nodes.as_slice() {
         return Ok(());
     }
     let configuration = Configuration {
-        seqno: store.ledger_len(),
-        nodes: NodeSet::new(trusted),
+        seqno,
+        nodes: NodeSet::new(nodes),
     };
     configurations.push(configuration)?;
     Ok(())

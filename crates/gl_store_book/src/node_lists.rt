@@ -1,13 +1,13 @@
 //! The configurations of a ledger and the nodes that it records, as they are kept beside it.
 
-ghost use Rattle.std.specs.Prelude.{◌≡◌, ◌≤◌, ◌∷◌, ◌++◌, [], List, length, take, IfOk, OnOk, OnErr};
-ghost use Rattle.gl_entry.specs.declared.entry.Entry.{Entry};
-ghost use Rattle.gl_ledger.specs.Recordings.{recorded_nodes};
+ghost use Rattle.std.specs.Prelude.{◌≡◌, ◌≤◌, ◌+◌, ◌-◌, ℕ, suc, IfOk, OnOk, OnErr};
+ghost use Rattle.gl_config.specs.Active.{upto};
+ghost use Rattle.gl_audit.specs.GovState.{Governed, governed_up_to, ungoverned};
 
 use crate::configurations::{copy_configurations, count_upto, push_configuration};
 use crate::recorded::{self, push_recorded};
+use gl_audit::GovState;
 use gl_config::{Configuration, NodeId};
-use gl_store::Store;
 use std::alloc::{AllocError, Global};
 
 /// Two lists, both in the order of the ledger.
@@ -18,11 +18,11 @@ pub(crate) struct NodeLists {
 }
 
 impl NodeLists {
-    ghost use Rattle.gl_store_book.specs.Lists.{AreConfigurationsOf, AreListsOf};
+    ghost use Rattle.gl_store_book.specs.Lists.{AreListsBefore, AreListsOf, StandBehind, nodes_of};
 
     /// Those of no entries.
     pub fn new(alloc: Global) -> Self
-        ensures { AreListsOf [] result }
+        ensures { AreListsOf 0 ungoverned 0 result }
     {
         NodeLists {
             configurations: Vec::new(alloc),
@@ -30,56 +30,64 @@ impl NodeLists {
         }
     }
 
-    /// The configurations of the ledger cut to a seqno.
-    pub fn configurations(&self, upto: u64) -> &[Configuration]
-        ensures prefix { (ledger : List Entry) → AreListsOf ledger self.now →
-            AreConfigurationsOf (take upto ledger) result.now }
+    /// The configurations of the ledger cut to a seqno, which is not below the base.
+    pub fn configurations(&self, seqno: u64) -> &[Configuration]
+        ensures { (base count : ℕ) (g : Governed) → AreListsOf base g count self.now →
+            base ≤ seqno → result.now ≡ upto seqno self.now.configurations.items }
     {
-        let count = count_upto(&self.configurations, upto);
+        let count = count_upto(&self.configurations, seqno);
         &self.configurations[..count]
     }
 
-    /// The nodes that the ledger of a store records, cut to a seqno.
-    pub fn recorded_nodes(&self, store: &Store, upto: u64) -> &[NodeId]
-        requires { AreListsOf store.now.ledger self.now }
-        ensures { result.now ≡ recorded_nodes (take upto store.now.ledger) }
+    /// The nodes that the ledger records which ends with the entry at a seqno, cut to another one,
+    /// which is not below the base.
+    pub fn recorded_nodes(&self, gov: &GovState, last: u64, upto: u64) -> &[NodeId]
+        requires { self.now.recorded.items ≡ nodes_of gov.now }
+        ensures { (base count : ℕ) → StandBehind base gov.now count → last ≡ base + count →
+            base ≤ upto → result.now ≡ nodes_of (governed_up_to upto gov.now) }
     {
-        if upto >= store.ledger_len() {
+        if upto >= last {
             return &self.recorded;
         }
-        let count = recorded::count_upto(store.gov().history().nodes(), upto);
+        let count = recorded::count_upto(gov.history().nodes(), upto);
         &self.recorded[..count]
     }
 
-    /// Takes in what the last entry of a ledger changes. Running out of memory leaves both lists as
-    /// they were.
-    pub(crate) fn push_last(&mut self, alloc: Global, store: &Store) -> Result<(), AllocError>
-        requires { (ledger : List Entry) × (e : Entry) × (store.now.ledger ≡ ledger ++ e ∷ [])
-            × AreListsOf ledger self.old }
-        ensures pushed { OnOk result (AreListsOf store.now.ledger self.new) }
+    /// Takes in what the last entry of a ledger, at a seqno, changes. Running out of memory leaves
+    /// both lists as they were.
+    pub(crate) fn push_last(
+        &mut self,
+        alloc: Global,
+        gov: &GovState,
+        seqno: u64,
+    ) -> Result<(), AllocError>
+        requires { (base : ℕ) × (count : ℕ) × (seqno ≡ base + suc count)
+            × AreListsBefore base count gov.now self.old }
+        ensures pushed { OnOk result ((base count : ℕ) → seqno ≡ base + suc count →
+            AreListsBefore base count gov.now self.old →
+            AreListsOf base gov.now (suc count) self.new) }
         ensures configurations { OnErr result
             (self.new.configurations.items ≡ self.old.configurations.items) }
         ensures recorded { OnErr result (self.new.recorded.items ≡ self.old.recorded.items) }
     {
-        prove!(store.ledger_len() > 0);
         let count = self.recorded.len();
-        push_recorded(&mut self.recorded, store.gov().history().nodes())?;
-        if let Err(error) = push_configuration(alloc, &mut self.configurations, store) {
+        push_recorded(&mut self.recorded, gov.history().nodes())?;
+        if let Err(error) = push_configuration(alloc, &mut self.configurations, gov, seqno) {
             self.recorded.truncate(count);
             return Err(error);
         }
         Ok(())
     }
 
-    /// Cuts both as a store's ledger is to be cut to a seqno. Takes no memory.
-    pub fn cut(&mut self, store: &Store, to: u64)
-        requires listed { AreListsOf store.now.ledger self.old }
-        requires within { to ≤ length store.now.ledger }
-        ensures { AreListsOf (take to store.now.ledger) self.new }
+    /// Cuts both as the ledger is to be cut to a seqno, which is not below the base. Takes no
+    /// memory.
+    pub fn cut(&mut self, gov: &GovState, to: u64)
+        ensures { (base count : ℕ) → StandBehind base gov.now count →
+            AreListsOf base gov.now count self.old → base ≤ to → to ≤ base + count →
+            AreListsOf base (governed_up_to to gov.now) (to - base) self.new }
     {
-        prove!(to <= store.ledger_len());
         let configurations = count_upto(&self.configurations, to);
-        let recorded = recorded::count_upto(store.gov().history().nodes(), to);
+        let recorded = recorded::count_upto(gov.history().nodes(), to);
         self.configurations.truncate(configurations);
         self.recorded.truncate(recorded);
     }

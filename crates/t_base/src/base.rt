@@ -45,7 +45,7 @@ fn reads_identifiers_and_reports_the_first_fault(rt: HostRuntime) {
         (b"2.0", Err(TxIdFault::Zero)),
     ];
     for (text, want) in rows {
-        assert_eq!(rt; TxId::parse(text), want, "of {text:?}");
+        assert!(rt; TxId::parse(text) == want, "of {text:?}");
     }
 }
 
@@ -56,8 +56,8 @@ fn writes_the_longest_identifier(rt: HostRuntime) {
         view: 4_294_967_295,
         seqno: 1_099_511_627_775,
     };
-    assert_eq!(rt; id.text_into(&mut out), 24);
-    assert_eq!(rt; out.as_slice(), b"4294967295.1099511627775".as_slice());
+    assert!(rt; id.text_into(&mut out) == 24);
+    assert!(rt; out.as_slice() == b"4294967295.1099511627775".as_slice());
 }
 
 #[test]
@@ -77,7 +77,7 @@ fn reports_the_status_by_the_commit(rt: HostRuntime) {
     ];
     for (view, seqno, local, committed, want) in rows {
         let asked = TxId { view, seqno };
-        assert_eq!(rt; status(asked, local, committed), want, "of {asked:?}");
+        assert!(rt; status(asked, local, committed) == want, "of {asked:?}");
     }
 }
 
@@ -91,15 +91,15 @@ const FRAME: [u8; 43] = [
 #[test]
 fn reads_the_fields_of_a_frame(rt: HostRuntime) -> Result<(), Fail> {
     let mut cut = Cut::new(&FRAME);
-    assert_eq!(rt; (cut.u8()?, cut.u8()?, cut.u48()?), (1, 0, 0x5b));
-    assert_eq!(rt; (cut.u32()?, cut.u64()?, cut.u8()?), (2, 3, 2));
-    assert_eq!(rt; (cut.u32()?, cut.u16()?, cut.u8()?), (20, 1, 3));
-    assert_eq!(rt; cut.text(128)?, b"public:t".as_slice());
-    assert_eq!(rt; cut.bytes(16, 1024)?, b"a".as_slice());
-    assert_eq!(rt; cut.at(), 40);
-    assert_eq!(rt; cut.bytes(32, 65_536), Err(CutFault::Short { at: 43 }));
-    assert_eq!(rt; cut.bytes(0, 2)?, [1, 0].as_slice());
-    assert_eq!(rt; cut.rest(), [0].as_slice());
+    assert!(rt; (cut.u8()?, cut.u8()?, cut.u48()?) == (1, 0, 0x5b));
+    assert!(rt; (cut.u32()?, cut.u64()?, cut.u8()?) == (2, 3, 2));
+    assert!(rt; (cut.u32()?, cut.u16()?, cut.u8()?) == (20, 1, 3));
+    assert!(rt; cut.text(128)? == b"public:t".as_slice());
+    assert!(rt; cut.bytes(16, 1024)? == b"a".as_slice());
+    assert!(rt; cut.at() == 40);
+    assert!(rt; cut.bytes(32, 65_536) == Err(CutFault::Short { at: 43 }));
+    assert!(rt; cut.bytes(0, 2)? == [1, 0].as_slice());
+    assert!(rt; cut.rest() == [0].as_slice());
     Ok(())
 }
 
@@ -115,22 +115,22 @@ fn writes_the_fields_of_a_frame(rt: HostRuntime) -> Result<(), Fail> {
     put_u32(&mut out, 20)?;
     put_u16(&mut out, 1)?;
     put_bytes(&mut out, b"\x03\x08public:t\x01\x00a\x01\x00\x00")?;
-    assert_eq!(rt; out.as_slice(), FRAME.as_slice());
+    assert!(rt; out.as_slice() == FRAME.as_slice());
     Ok(())
 }
 
 #[test]
 fn leaves_the_cut_as_it_was_after_a_fault(rt: HostRuntime) -> Result<(), Fail> {
     let mut cut = Cut::new(b"\x05ab c");
-    assert_eq!(rt; cut.text(4), Err(CutFault::TooLong { at: 0, len: 5 }));
-    assert_eq!(rt; cut.text(5), Err(CutFault::Short { at: 5 }));
-    assert_eq!(rt; cut.u64(), Err(CutFault::Short { at: 5 }));
-    assert_eq!(rt; (cut.at(), cut.rest()), (0, b"\x05ab c".as_slice()));
+    assert!(rt; cut.text(4) == Err(CutFault::TooLong { at: 0, len: 5 }));
+    assert!(rt; cut.text(5) == Err(CutFault::Short { at: 5 }));
+    assert!(rt; cut.u64() == Err(CutFault::Short { at: 5 }));
+    assert!(rt; (cut.at(), cut.rest()) == (0, b"\x05ab c".as_slice()));
     let mut names = Cut::new(b"\x02!~\x04ab c\x00");
-    assert_eq!(rt; names.text(9)?, b"!~".as_slice());
-    assert_eq!(rt; names.text(9), Err(CutFault::NotText { at: 6 }));
-    assert_eq!(rt; names.bytes(8, 9)?, b"ab c".as_slice());
-    assert_eq!(rt; names.text(9)?, b"".as_slice());
+    assert!(rt; names.text(9)? == b"!~".as_slice());
+    assert!(rt; names.text(9) == Err(CutFault::NotText { at: 6 }));
+    assert!(rt; names.bytes(8, 9)? == b"ab c".as_slice());
+    assert!(rt; names.text(9)? == b"".as_slice());
     Ok(())
 }
 
@@ -143,33 +143,27 @@ const ROW: [u8; 28] = [
 #[test]
 fn reads_the_fields_of_a_row(rt: HostRuntime) -> Result<(), Fail> {
     let mut cut = Cut::new(&ROW);
-    assert_eq!(rt; cut.map_name()?, b"public:t".as_slice());
-    assert_eq!(rt; cut.key()?, b"k\0".as_slice());
-    assert_eq!(rt; cut.value(2)?, [7, 8].as_slice());
+    assert!(rt; cut.map_name()? == b"public:t".as_slice());
+    assert!(rt; cut.key()? == b"k\0".as_slice());
+    assert!(rt; cut.value(2)? == [7, 8].as_slice());
     assert!(rt; cut.optional_value(9)?.is_none());
-    assert_eq!(rt; cut.end(), Err(CodeFault::Trailing { at: 20 }));
+    assert!(rt; cut.end() == Err(CodeFault::Trailing { at: 20 }));
     let long = CodeFault::Cut(CutFault::TooLong { at: 21, len: 3 });
-    assert_eq!(rt; cut.optional_value(2).err(), Some(long));
-    assert_eq!(rt;
-        cut.key().err(),
-        Some(CodeFault::Cut(CutFault::Short { at: 28 }))
-    );
-    assert_eq!(rt; cut.optional_value(3)?.map_or(0, |value| value.len()), 3);
-    assert_eq!(rt; cut.end(), Ok(()));
+    assert!(rt; cut.optional_value(2).err() == Some(long));
+    assert!(rt; cut.key().err() == Some(CodeFault::Cut(CutFault::Short { at: 28 })));
+    assert!(rt; cut.optional_value(3)? == Some([9, 9, 9].as_slice()));
+    assert!(rt; cut.end() == Ok(()));
     Ok(())
 }
 
 #[test]
 fn refuses_fields_of_a_row_that_are_empty_or_flagged_wrongly(rt: HostRuntime) {
     let empty = Err(CodeFault::Value { at: 5 });
-    assert_eq!(rt; Cut::new_at(&[0, 1], 5).map_name(), empty);
-    assert_eq!(rt; Cut::new_at(&[0, 0, 1], 5).key(), empty);
+    assert!(rt; Cut::new_at(&[0, 1], 5).map_name() == empty);
+    assert!(rt; Cut::new_at(&[0, 0, 1], 5).key() == empty);
     let flag = Some(CodeFault::Value { at: 5 });
-    assert_eq!(rt;
-        Cut::new_at(&[2, 0, 0, 0, 0], 5).optional_value(9).err(),
-        flag
-    );
-    assert_eq!(rt; Cut::new(&[0, 0, 0, 0]).value(0), Ok([].as_slice()));
+    assert!(rt; Cut::new_at(&[2, 0, 0, 0, 0], 5).optional_value(9).err() == flag);
+    assert!(rt; Cut::new(&[0, 0, 0, 0]).value(0) == Ok([].as_slice()));
 }
 
 #[test]
@@ -180,9 +174,9 @@ fn writes_the_fields_of_a_row(rt: HostRuntime) -> Result<(), Fail> {
     put_value(&mut out, &[7, 8])?;
     put_optional_value(&mut out, None)?;
     put_optional_value(&mut out, Some(&[9, 9, 9]))?;
-    assert_eq!(rt; out.as_slice(), ROW.as_slice());
+    assert!(rt; out.as_slice() == ROW.as_slice());
     put_field(&mut out, 0, b"!")?;
-    assert_eq!(rt; out.len(), 29);
+    assert!(rt; out.len() == 29);
     Ok(())
 }
 
@@ -194,18 +188,18 @@ fn writes_any_identifier_after_a_list(rt: HostRuntime) -> Result<(), Fail> {
         seqno: 18_446_744_073_709_551_615,
     };
     id.push_text(&mut out)?;
-    assert_eq!(rt; out.as_slice(), b"=0.18446744073709551615".as_slice());
+    assert!(rt; out.as_slice() == b"=0.18446744073709551615".as_slice());
     Ok(())
 }
 
 #[test]
 fn points_into_a_json_text(rt: HostRuntime) -> Result<(), Fail> {
     let mut path = Pointer::new(rt.alloc());
-    assert_eq!(rt; path.as_slice(), b"".as_slice());
+    assert!(rt; path.as_slice() == b"".as_slice());
     path.push_member(b"a/b")?;
     path.push_item(10)?;
     path.push_member(b"m~n")?;
-    assert_eq!(rt; path.as_slice(), b"/a~1b/10/m~0n".as_slice());
+    assert!(rt; path.as_slice() == b"/a~1b/10/m~0n".as_slice());
     Ok(())
 }
 
@@ -238,18 +232,15 @@ fn read_bytes(rt: &HostRuntime, cut: &mut Cut<'_>) -> Result<Bytes, OrNoMemory<C
 #[test]
 fn converts_each_fault(rt: HostRuntime) -> Result<(), Fail> {
     let bytes = read_bytes(&rt, &mut Cut::new(&[2, 5, 6]))?;
-    assert_eq!(rt; (bytes.len(), bytes.is_empty()), (2, false));
+    assert!(rt; (bytes.len(), bytes.is_empty()) == (2, false));
     assert!(rt; same_bytes(&bytes.into_vec(), &[5, 6]));
     let long = CodeFault::Cut(CutFault::TooLong { at: 0, len: 3 });
     let of = |bytes: &[u8]| read_bytes(&rt, &mut Cut::new(bytes)).err();
-    assert_eq!(rt; of(&[3, 5, 6, 7]), Some(OrNoMemory::Fault(long)));
+    assert!(rt; of(&[3, 5, 6, 7]) == Some(OrNoMemory::Fault(long)));
     let left = CodeFault::Trailing { at: 2 };
-    assert_eq!(rt; of(&[1, 5, 6]), Some(OrNoMemory::Fault(left)));
+    assert!(rt; of(&[1, 5, 6]) == Some(OrNoMemory::Fault(left)));
     let wider: OrNoMemory<CodeFault> = OrNoMemory::Fault(CutFault::Short { at: 4 }).widen();
-    assert_eq!(rt;
-        wider,
-        OrNoMemory::Fault(CodeFault::Cut(CutFault::Short { at: 4 }))
-    );
+    assert!(rt; wider == OrNoMemory::Fault(CodeFault::Cut(CutFault::Short { at: 4 })));
     Ok(())
 }
 
@@ -260,9 +251,9 @@ fn reads_and_writes_bytes_that_say_yes_or_no(rt: HostRuntime) -> Result<(), Fail
     put_flag(&mut out, false)?;
     put_u8(&mut out, 2)?;
     let mut cut = Cut::new(&out);
-    assert_eq!(rt; (cut.flag()?, cut.flag()?), (true, false));
-    assert_eq!(rt; cut.flag(), Err(CodeFault::Value { at: 2 }));
-    assert_eq!(rt; cut.array::<2>(), Err(CutFault::Short { at: 3 }));
-    assert_eq!(rt; cut.array::<1>()?, &[2]);
+    assert!(rt; (cut.flag()?, cut.flag()?) == (true, false));
+    assert!(rt; cut.flag() == Err(CodeFault::Value { at: 2 }));
+    assert!(rt; cut.array::<2>() == Err(CutFault::Short { at: 3 }));
+    assert!(rt; cut.array::<1>()? == &[2]);
     Ok(())
 }

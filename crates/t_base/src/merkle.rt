@@ -88,7 +88,7 @@ fn roots_from_outside(rt: HostRuntime) -> Result<(), Fail> {
         ),
     ] {
         assert!(rt; 0 < count && count <= leaves.len());
-        assert_eq!(rt; root(&leaves[..count]), want, "of {count} leaves");
+        assert!(rt; root(&leaves[..count]) == want, "of {count} leaves");
     }
     Ok(())
 }
@@ -100,28 +100,21 @@ fn paths_written_out(rt: HostRuntime) -> Result<(), Fail> {
     let (ab, cd) = (over(a, b), over(c, d));
     let all = [a, b, c, d, e];
     let alloc = rt.alloc();
-    assert_eq!(rt; path(alloc, &all[..1], 1)?.as_slice(), [].as_slice());
-    assert_eq!(rt;
-        path(alloc, &all[..2], 1)?.as_slice(),
-        [Step::Right(b)].as_slice()
+    assert!(rt; path(alloc, &all[..1], 1)?.as_slice() == [].as_slice());
+    assert!(rt; path(alloc, &all[..2], 1)?.as_slice() == [Step::Right(b)].as_slice());
+    assert!(rt;
+        path(alloc, &all[..3], 1)?.as_slice() == [Step::Right(b), Step::Right(c)].as_slice()
     );
-    assert_eq!(rt;
-        path(alloc, &all[..3], 1)?.as_slice(),
-        [Step::Right(b), Step::Right(c)].as_slice()
+    assert!(rt;
+        path(alloc, &all, 1)?.as_slice()
+            == [Step::Right(b), Step::Right(cd), Step::Right(e)].as_slice()
     );
-    assert_eq!(rt;
-        path(alloc, &all, 1)?.as_slice(),
-        [Step::Right(b), Step::Right(cd), Step::Right(e)].as_slice()
+    assert!(rt;
+        path(alloc, &all, 3)?.as_slice()
+            == [Step::Right(d), Step::Left(ab), Step::Right(e)].as_slice()
     );
-    assert_eq!(rt;
-        path(alloc, &all, 3)?.as_slice(),
-        [Step::Right(d), Step::Left(ab), Step::Right(e)].as_slice()
-    );
-    assert_eq!(rt;
-        path(alloc, &all, 5)?.as_slice(),
-        [Step::Left(over(ab, cd))].as_slice()
-    );
-    assert_eq!(rt; climb(c, path(alloc, &all, 3)?.as_slice()), root(&all));
+    assert!(rt; path(alloc, &all, 5)?.as_slice() == [Step::Left(over(ab, cd))].as_slice());
+    assert!(rt; climb(c, path(alloc, &all, 3)?.as_slice()) == root(&all));
     Ok(())
 }
 
@@ -137,17 +130,19 @@ fn agrees(
     requires count { count_of frontier.now ≡ length leaves.now }
 {
     let size = leaves.len();
-    assert_eq!(rt; frontier.len(), size as u64);
+    assert!(rt; frontier.len() == size as u64);
     if size > 0 {
-        assert_eq!(rt; frontier.root(), root(leaves), "root of {size} over {base}");
+        assert!(rt;
+            frontier.root() == root(leaves),
+            "root of {size} over {base}"
+        );
     }
     for place in base..size {
         let index = place + 1;
         let want = path(alloc, leaves, index)?;
         let got = frontier.path_of(index as u64, size as u64)?;
-        assert_eq!(rt;
-            got.as_slice(),
-            want.as_slice(),
+        assert!(rt;
+            got.as_slice() == want.as_slice(),
             "path of {index} in {size} over {base}"
         );
     }
@@ -187,8 +182,8 @@ fn peaks_written_out(rt: HostRuntime) -> Result<(), Fail> {
     let peaks = frontier.peaks(7)?;
     let four = over(over(all[0], all[1]), over(all[2], all[3]));
     let two = over(all[4], all[5]);
-    assert_eq!(rt; peaks.as_slice(), [four, two, all[6]].as_slice());
-    assert_eq!(rt; frontier.root(), over(four, over(two, all[6])));
+    assert!(rt; peaks.as_slice() == [four, two, all[6]].as_slice());
+    assert!(rt; frontier.root() == over(four, over(two, all[6])));
     Ok(())
 }
 

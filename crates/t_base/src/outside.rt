@@ -32,12 +32,12 @@ fn gives_all_bytes_in_any_pieces_over_chosen_failures(rt: HostRuntime) -> Result
     for piece in 0..7 {
         let mut out = Vec::new(rt.alloc());
         let mut source = MemSource::new(b"galdoxe", piece, &[1, 3]);
-        assert_eq!(rt; drain(&mut source, &mut out)?, 2, "in pieces of {piece}");
-        assert_eq!(rt; out.as_slice(), b"galdoxe".as_slice());
-        assert_eq!(rt; (source.plan.faults(), source.inner.ended), (2, true));
+        assert!(rt; drain(&mut source, &mut out)? == 2, "in pieces of {piece}");
+        assert!(rt; out.as_slice() == b"galdoxe".as_slice());
+        assert!(rt; (source.plan.faults(), source.inner.ended) == (2, true));
         out.clear();
-        assert_eq!(rt; drain(SureSource::new(b"galdoxe", piece), &mut out)?, 0);
-        assert_eq!(rt; out.as_slice(), b"galdoxe".as_slice());
+        assert!(rt; drain(SureSource::new(b"galdoxe", piece), &mut out)? == 0);
+        assert!(rt; out.as_slice() == b"galdoxe".as_slice());
     }
     Ok(())
 }
@@ -47,16 +47,13 @@ fn writes_all_bytes_or_a_prefix_of_them(rt: HostRuntime) -> Result<(), Fail> {
     let mut sure = SureSink::new(rt.alloc(), 3);
     write_whole(&mut sure, b"galdoxe")?;
     write_whole(&mut sure, b"")?;
-    assert_eq!(rt; sure.held.as_slice(), b"galdoxe".as_slice());
+    assert!(rt; sure.held.as_slice() == b"galdoxe".as_slice());
     let mut sink = MemSink::new(rt.alloc(), 3, &[3]);
-    assert_eq!(rt;
-        write_whole(&mut &mut sink, b"galdoxe"),
-        Err(SinkFault::Failed)
-    );
-    assert_eq!(rt; sink.inner.held.as_slice(), b"galdox".as_slice());
-    assert_eq!(rt; sink.plan.faults(), 1);
+    assert!(rt; write_whole(&mut &mut sink, b"galdoxe") == Err(SinkFault::Failed));
+    assert!(rt; sink.inner.held.as_slice() == b"galdox".as_slice());
+    assert!(rt; sink.plan.faults() == 1);
     write_whole(&mut sink, b"e")?;
-    assert_eq!(rt; sink.inner.held.as_slice(), b"galdoxe".as_slice());
+    assert!(rt; sink.inner.held.as_slice() == b"galdoxe".as_slice());
     Ok(())
 }
 
@@ -99,28 +96,28 @@ impl Write for Stream {
 fn streams_count_their_errors(rt: HostRuntime) {
     let mut source = StreamSource::new(Stream { calls: 0 });
     let mut buf = [0; 2];
-    assert_eq!(rt; source.read(&mut buf), Got::Bytes(1));
-    assert_eq!(rt; (source.read(&mut buf), source.faults), (Got::Failed, 1));
-    assert_eq!(rt; source.read(&mut []), Got::Bytes(0));
+    assert!(rt; source.read(&mut buf) == Got::Bytes(1));
+    assert!(rt; (source.read(&mut buf), source.faults) == (Got::Failed, 1));
+    assert!(rt; source.read(&mut []) == Got::Bytes(0));
     assert!(rt; !source.ended);
-    assert_eq!(rt; (source.read(&mut buf), source.faults), (Got::End, 1));
+    assert!(rt; (source.read(&mut buf), source.faults) == (Got::End, 1));
     assert!(rt; source.ended);
 
     let mut sink = StreamSink::new(Stream { calls: 0 });
-    assert_eq!(rt; sink.write(b"ab"), Put::Took(1));
-    assert_eq!(rt; (sink.write(b"ab"), sink.faults), (Put::Failed, 1));
-    assert_eq!(rt; sink.write(b""), Put::Took(0));
-    assert_eq!(rt; (sink.write(b"ab"), sink.faults), (Put::Failed, 2));
+    assert!(rt; sink.write(b"ab") == Put::Took(1));
+    assert!(rt; (sink.write(b"ab"), sink.faults) == (Put::Failed, 1));
+    assert!(rt; sink.write(b"") == Put::Took(0));
+    assert!(rt; (sink.write(b"ab"), sink.faults) == (Put::Failed, 2));
 }
 
 #[test]
 fn streams_over_memory_lose_nothing(rt: HostRuntime) -> Result<(), Fail> {
     let mut out = Vec::new(rt.alloc());
     drain(StreamSource::new(b"galdoxe".as_slice()), &mut out)?;
-    assert_eq!(rt; out.as_slice(), b"galdoxe".as_slice());
+    assert!(rt; out.as_slice() == b"galdoxe".as_slice());
     let mut sink = StreamSink::new(Vec::new(rt.alloc()));
     write_whole(&mut sink, b"galdoxe")?;
-    assert_eq!(rt; sink.inner.as_slice(), b"galdoxe".as_slice());
+    assert!(rt; sink.inner.as_slice() == b"galdoxe".as_slice());
     Ok(())
 }
 
@@ -137,11 +134,8 @@ fn each_call_of_a_disk_fails_in_turn(rt: HostRuntime) -> Result<(), Fail> {
             disk.write_at(4, b"ef").is_err(),
             disk.sync().is_err(),
         ];
-        assert_eq!(rt;
-            failed,
-            [chosen == 1, chosen == 2, chosen == 3, chosen == 4]
-        );
-        assert_eq!(rt; disk.faults(), if chosen < 5 { 1 } else { 0 });
+        assert!(rt; failed == [chosen == 1, chosen == 2, chosen == 3, chosen == 4]);
+        assert!(rt; disk.faults() == (if chosen < 5 { 1 } else { 0 }));
     }
     Ok(())
 }
@@ -184,7 +178,7 @@ fn a_stop_leaves_what_was_kept_and_torn_writes(rt: HostRuntime) -> Result<(), Fa
     for (calls, tear, left) in rows {
         assert!(rt; calls <= disk.inner.calls.len());
         let image = disk.inner.image(rt.alloc(), calls, tear)?;
-        assert_eq!(rt; image.as_slice(), left, "behind call {calls}");
+        assert!(rt; image.as_slice() == left, "behind call {calls}");
     }
     assert!(rt; syncs(&mut disk));
     Ok(())
@@ -196,14 +190,11 @@ fn a_link_gives_in_order_and_fails_at_chosen_calls(rt: HostRuntime) -> Result<()
     let mut link = MemLink::new(SureLink::new(rt.alloc(), &given), &[2], &[1]);
     assert!(rt; matches!(link.next(), Came::Bytes(1, _)));
     assert!(rt; matches!(link.next(), Came::Failed));
-    assert_eq!(rt; link.send(1, b"xyz"), Put::Failed);
-    assert_eq!(rt; (&mut link).send(2, b"xyz"), Put::Took(3));
+    assert!(rt; link.send(1, b"xyz") == Put::Failed);
+    assert!(rt; (&mut link).send(2, b"xyz") == Put::Took(3));
     assert!(rt; matches!(link.next(), Came::Tick));
     assert!(rt; matches!(link.next(), Came::Ended));
-    assert_eq!(rt;
-        (link.nexts.calls, link.nexts.faults(), link.sends.faults()),
-        (4, 1, 1)
-    );
+    assert!(rt; (link.nexts.calls, link.nexts.faults(), link.sends.faults()) == (4, 1, 1));
     assert!(rt; link.inner.ended);
     Ok(())
 }
@@ -228,7 +219,7 @@ fn a_gate_may_wait(rt: HostRuntime) {
         last: Mutex::new(0),
     };
     gate.enter(7);
-    assert_eq!(rt; *gate.last.lock(&rt), 7);
+    assert!(rt; *gate.last.lock(&rt) == 7);
     OpenGate.enter(7);
 }
 

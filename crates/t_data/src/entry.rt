@@ -121,20 +121,20 @@ fn put_entry(alloc: Global) -> Result<Entry, Fail>
 #[test]
 fn encodes_the_entry_of_a_put(rt: HostRuntime) -> Result<(), Fail> {
     let entry = put_entry(rt.alloc())?;
-    assert_eq!(rt; entry.writes.as_slice().len(), 1);
+    assert!(rt; entry.writes.as_slice().len() == 1);
     let body = entry.body(rt.alloc())?;
-    assert_eq!(rt; body.len(), 91);
-    assert_eq!(rt; body.as_slice(), &PUT[8..]);
-    assert_eq!(rt; entry.encode(rt.alloc())?.as_slice(), PUT.as_slice());
+    assert!(rt; body.len() == 91);
+    assert!(rt; body.as_slice() == &PUT[8..]);
+    assert!(rt; entry.encode(rt.alloc())?.as_slice() == PUT.as_slice());
     let id = TxId { view: 2, seqno: 3 };
-    assert_eq!(rt; evidence(rt.alloc(), &IDENTITY, id)?.as_slice(), EVIDENCE);
-    assert_eq!(rt; leaf_of_body(&IDENTITY, &entry, &body), LEAF);
-    assert_eq!(rt; leaf(&entry, &IDENTITY), LEAF);
+    assert!(rt; evidence(rt.alloc(), &IDENTITY, id)?.as_slice() == EVIDENCE);
+    assert!(rt; leaf_of_body(&IDENTITY, &entry, &body) == LEAF);
+    assert!(rt; leaf(&entry, &IDENTITY) == LEAF);
     let (body, text) = (entry.body_digest(), commit_evidence_digest(&IDENTITY, id));
-    assert_eq!(rt; leaf_of_components(&body, &text, &entry.claims), LEAF);
+    assert!(rt; leaf_of_components(&body, &text, &entry.claims) == LEAF);
     assert!(rt; is_evidence(EVIDENCE, &IDENTITY, id));
     assert!(rt; !is_evidence(EVIDENCE, &IDENTITY, TxId { view: 23, ..id }));
-    assert_eq!(rt; (entry.body_len(), entry.frame_len()), (91, 99));
+    assert!(rt; (entry.body_len(), entry.frame_len()) == (91, 99));
     Ok(())
 }
 
@@ -149,22 +149,22 @@ fn encoded(alloc: Global, entry: &Entry) -> Result<Vec<u8>, AllocError>
 fn reads_each_kind_of_entry(rt: HostRuntime) -> Result<(), Fail> {
     for frame in [PUT.as_slice(), SIGNED.as_slice(), RULED.as_slice()] {
         let (entry, size) = Entry::decode(rt.alloc(), frame)?;
-        assert_eq!(rt; size, frame.len());
-        assert_eq!(rt; encoded(rt.alloc(), &entry)?.as_slice(), frame);
+        assert!(rt; size == frame.len());
+        assert!(rt; encoded(rt.alloc(), &entry)?.as_slice() == frame);
         let copy = entry.copy(rt.alloc())?;
-        assert_eq!(rt; encoded(rt.alloc(), &copy)?.as_slice(), frame);
+        assert!(rt; encoded(rt.alloc(), &copy)?.as_slice() == frame);
     }
     let (entry, _) = Entry::decode(rt.alloc(), &SIGNED)?;
-    assert_eq!(rt; (entry.view, entry.seqno), (2, 4));
+    assert!(rt; (entry.view, entry.seqno) == (2, 4));
     match &entry.content {
         Content::Signature(signature) => {
-            assert_eq!(rt; (signature.node, signature.commit), ([0xaa; 32], 3));
-            assert_eq!(rt; signature.root, [0xbb; 32]);
-            assert_eq!(rt; signature.signature.as_slice(), [5, 6].as_slice());
+            assert!(rt; (signature.node, signature.commit) == ([0xaa; 32], 3));
+            assert!(rt; signature.root == [0xbb; 32]);
+            assert!(rt; signature.signature.as_slice() == [5, 6].as_slice());
             let message = signed_message(&signature.root, 2, 4, signature.commit);
             let numbers = b"\x02\0\0\0\x04\0\0\0\0\0\0\0\x03\0\0\0\0\0\0\0";
-            assert_eq!(rt; &message[..32], [0xbb; 32].as_slice());
-            assert_eq!(rt; &message[32..], numbers.as_slice());
+            assert!(rt; &message[..32] == [0xbb; 32].as_slice());
+            assert!(rt; &message[32..] == numbers.as_slice());
         }
         _ => panic!(rt; "a signature"),
     }
@@ -210,9 +210,8 @@ fn reports_the_first_fault(rt: HostRuntime) -> Result<(), Fail> {
         assert!(rt; at + 1 < changed.len());
         changed[at] = bytes[0];
         changed[at + 1] = bytes[1];
-        assert_eq!(rt;
-            fault_of(rt.alloc(), &changed),
-            Some(OrNoMemory::Fault(want)),
+        assert!(rt;
+            fault_of(rt.alloc(), &changed) == Some(OrNoMemory::Fault(want)),
             "at {at}"
         );
     }
@@ -223,36 +222,30 @@ fn reports_the_first_fault(rt: HostRuntime) -> Result<(), Fail> {
 fn measures_the_body_by_its_size(rt: HostRuntime) -> Result<(), Fail> {
     let mut longer = Vec::from_slice(rt.alloc(), &PUT)?;
     longer.push(0)?;
-    assert_eq!(rt; Entry::decode(rt.alloc(), &longer)?.1, 99);
-    assert_eq!(rt; longer.len(), 100);
+    assert!(rt; Entry::decode(rt.alloc(), &longer)?.1 == 99);
+    assert!(rt; longer.len() == 100);
     longer[2] = 0x5c;
     let trailing = EntryFault::Code(CodeFault::Trailing { at: 99 });
-    assert_eq!(rt;
-        fault_of(rt.alloc(), &longer),
-        Some(OrNoMemory::Fault(trailing))
-    );
+    assert!(rt; fault_of(rt.alloc(), &longer) == Some(OrNoMemory::Fault(trailing)));
     for len in 0..99 {
         let short = EntryFault::Code(CodeFault::Cut(CutFault::Short { at: len }));
-        assert_eq!(rt;
-            fault_of(rt.alloc(), &PUT[..len]),
-            Some(OrNoMemory::Fault(short))
-        );
+        assert!(rt; fault_of(rt.alloc(), &PUT[..len]) == Some(OrNoMemory::Fault(short)));
     }
     let size = EntryFault::Size {
         size: 281_474_976_710_655,
     };
     let large = [1, 0, 0xff, 0xff, 0xff, 0xff, 0xff, 0xff, 2, 0];
-    assert_eq!(rt; fault_of(rt.alloc(), &large), Some(OrNoMemory::Fault(size)));
+    assert!(rt; fault_of(rt.alloc(), &large) == Some(OrNoMemory::Fault(size)));
     Ok(())
 }
 
 #[test]
 fn counts_places_on_inside_other_bytes(rt: HostRuntime) -> Result<(), Fail> {
     let (entry, size) = Entry::decode_at(rt.alloc(), 1000, &PUT)?;
-    assert_eq!(rt; (entry.seqno, size), (3, 99));
+    assert!(rt; (entry.seqno, size) == (3, 99));
     let short = EntryFault::Code(CodeFault::Cut(CutFault::Short { at: 1098 }));
     let fault = Entry::decode_at(rt.alloc(), 1000, &PUT[..98]).err();
-    assert_eq!(rt; fault, Some(OrNoMemory::Fault(short)));
+    assert!(rt; fault == Some(OrNoMemory::Fault(short)));
     Ok(())
 }
 
@@ -278,9 +271,8 @@ fn reads_a_ledger_in_any_pieces(rt: HostRuntime) -> Result<(), Fail> {
     for piece in 1..=bytes.len() {
         let mut reader = LedgerReader::new(rt.alloc(), MemSource::new(&bytes, piece, &[]));
         let (frames, fault) = drain(rt.alloc(), &mut reader)?;
-        assert_eq!(rt;
-            (frames.as_slice(), fault),
-            (bytes.as_slice(), None),
+        assert!(rt;
+            (frames.as_slice(), fault) == (bytes.as_slice(), None),
             "in pieces of {piece}"
         );
     }
@@ -305,9 +297,8 @@ fn reports_where_a_ledger_is_cut(rt: HostRuntime) -> Result<(), Fail> {
         };
         let mut reader = LedgerReader::new(rt.alloc(), MemSource::new(&bytes[..len], 100, &[]));
         let (frames, fault) = drain(rt.alloc(), &mut reader)?;
-        assert_eq!(rt;
-            (frames.as_slice(), fault),
-            (&bytes[..whole], want),
+        assert!(rt;
+            (frames.as_slice(), fault) == (&bytes[..whole], want),
             "cut at {len}"
         );
     }
@@ -321,13 +312,13 @@ fn goes_on_where_a_read_failed(rt: HostRuntime) -> Result<(), Fail> {
         let failing = [failing];
         let mut reader = LedgerReader::new(rt.alloc(), MemSource::new(&bytes, 90, &failing));
         let (before, fault) = drain(rt.alloc(), &mut reader)?;
-        assert_eq!(rt; fault, Some(OrNoMemory::Fault(LedgerFault::Read)));
-        assert_eq!(rt; reader.source.plan.faults(), 1);
+        assert!(rt; fault == Some(OrNoMemory::Fault(LedgerFault::Read)));
+        assert!(rt; reader.source.plan.faults() == 1);
         let (after, fault) = drain(rt.alloc(), &mut reader)?;
-        assert_eq!(rt; fault, None);
+        assert!(rt; fault == None);
         let mut frames = before;
         frames.extend_from_slice(&after)?;
-        assert_eq!(rt; frames.as_slice(), bytes.as_slice());
+        assert!(rt; frames.as_slice() == bytes.as_slice());
     }
     Ok(())
 }

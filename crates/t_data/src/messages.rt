@@ -153,32 +153,28 @@ fn answer_bytes(alloc: Global, answer: &Answer) -> Result<Vec<u8>, AllocError>
 fn reads_and_encodes_each_kind(rt: HostRuntime) -> Result<(), Fail> {
     for (name, bytes) in MESSAGES {
         let message = Message::decode(rt.alloc(), bytes)?;
-        assert_eq!(rt;
-            (message.from, message.to),
-            ([0xaa; 32], [0xbb; 32]),
+        assert!(rt;
+            (message.from, message.to) == ([0xaa; 32], [0xbb; 32]),
             "{name}"
         );
-        assert_eq!(rt;
-            message_bytes(rt.alloc(), &message)?.as_slice(),
-            bytes,
+        assert!(rt;
+            message_bytes(rt.alloc(), &message)?.as_slice() == bytes,
             "{name}"
         );
     }
     for (name, bytes) in CLIENTS {
         let client = Client::decode(rt.alloc(), bytes)?;
-        assert_eq!(rt; client.number, 0x1122_3344_5566_7788, "{name}");
-        assert_eq!(rt;
-            client_bytes(rt.alloc(), &client)?.as_slice(),
-            bytes,
+        assert!(rt; client.number == 0x1122_3344_5566_7788, "{name}");
+        assert!(rt;
+            client_bytes(rt.alloc(), &client)?.as_slice() == bytes,
             "{name}"
         );
     }
     for (name, bytes) in ANSWERS {
         let answer = Answer::decode(rt.alloc(), bytes)?;
-        assert_eq!(rt; answer.number, 0x1122_3344_5566_7788, "{name}");
-        assert_eq!(rt;
-            answer_bytes(rt.alloc(), &answer)?.as_slice(),
-            bytes,
+        assert!(rt; answer.number == 0x1122_3344_5566_7788, "{name}");
+        assert!(rt;
+            answer_bytes(rt.alloc(), &answer)?.as_slice() == bytes,
             "{name}"
         );
     }
@@ -188,9 +184,9 @@ fn reads_and_encodes_each_kind(rt: HostRuntime) -> Result<(), Fail> {
 #[test]
 fn reads_the_fields(rt: HostRuntime) -> Result<(), Fail> {
     let vote = Message::decode(rt.alloc(), MESSAGES[0].1)?;
-    assert_eq!(rt; vote.view, 0x0403_0201);
+    assert!(rt; vote.view == 0x0403_0201);
     match &vote.body {
-        Body::RequestVote { last } => assert_eq!(rt; (last.view, last.seqno), (2, 7)),
+        Body::RequestVote { last } => assert!(rt; (last.view, last.seqno) == (2, 7)),
         _ => panic!(rt; "a request"),
     }
     let append = Message::decode(rt.alloc(), MESSAGES[4].1)?;
@@ -200,11 +196,11 @@ fn reads_the_fields(rt: HostRuntime) -> Result<(), Fail> {
             commit,
             entries,
         } => {
-            assert_eq!(rt; (prev.view, prev.seqno, *commit), (2, 2, 2));
+            assert!(rt; (prev.view, prev.seqno, *commit) == (2, 2, 2));
             match entries.as_slice() {
                 [put, signed] => {
-                    assert_eq!(rt; (put.view, put.seqno), (2, 3));
-                    assert_eq!(rt; (signed.view, signed.seqno), (3, 4));
+                    assert!(rt; (put.view, put.seqno) == (2, 3));
+                    assert!(rt; (signed.view, signed.seqno) == (3, 4));
                     assert!(rt; matches!(&signed.content, Content::Signature(_)));
                 }
                 _ => panic!(rt; "two entries"),
@@ -307,12 +303,12 @@ fn reports_the_first_fault_of_a_message(rt: HostRuntime) -> Result<(), Fail> {
     for (bytes, at, new, want) in rows {
         let bytes = changed(rt.alloc(), bytes, at, new)?;
         let fault = Message::decode(rt.alloc(), &bytes).err();
-        assert_eq!(rt; fault, Some(OrNoMemory::Fault(want)), "{new:?} at {at}");
+        assert!(rt; fault == Some(OrNoMemory::Fault(want)), "{new:?} at {at}");
     }
     for len in 0..request.len() {
         let short = MessageFault::Code(CodeFault::Cut(CutFault::Short { at: len }));
         let fault = Message::decode(rt.alloc(), &request[..len]).err();
-        assert_eq!(rt; fault, Some(OrNoMemory::Fault(short)));
+        assert!(rt; fault == Some(OrNoMemory::Fault(short)));
     }
     Ok(())
 }
@@ -335,7 +331,7 @@ fn reports_the_first_fault_of_a_client_and_an_answer(rt: HostRuntime) -> Result<
     for (at, new, want) in rows {
         let bytes = changed(rt.alloc(), CLIENTS[0].1, at, new)?;
         let fault = Client::decode(rt.alloc(), &bytes).err();
-        assert_eq!(rt; fault, Some(OrNoMemory::Fault(want)), "at {at}");
+        assert!(rt; fault == Some(OrNoMemory::Fault(want)), "at {at}");
     }
     let [_, _, (_, unknown), _, _, _, (_, receipt), _, _] = ANSWERS;
     let rows = [
@@ -348,7 +344,7 @@ fn reports_the_first_fault_of_a_client_and_an_answer(rt: HostRuntime) -> Result<
     for (bytes, at, new, want) in rows {
         let bytes = changed(rt.alloc(), bytes, at, new)?;
         let fault = Answer::decode(rt.alloc(), &bytes).err();
-        assert_eq!(rt; fault, Some(OrNoMemory::Fault(want)), "{new:?} at {at}");
+        assert!(rt; fault == Some(OrNoMemory::Fault(want)), "{new:?} at {at}");
     }
     Ok(())
 }
@@ -380,9 +376,8 @@ fn limits_the_bytes_of_entries(rt: HostRuntime) -> Result<(), Fail> {
         put_entry(&mut bytes, 3, first)?;
         put_entry(&mut bytes, 4, second)?;
         let want = want.map(|at| OrNoMemory::Fault(MessageFault::Code(CodeFault::Value { at })));
-        assert_eq!(rt;
-            Message::decode(rt.alloc(), &bytes).err(),
-            want,
+        assert!(rt;
+            Message::decode(rt.alloc(), &bytes).err() == want,
             "{first} and {second}"
         );
     }
@@ -396,7 +391,7 @@ fn cuts_a_stream_in_any_pieces(rt: HostRuntime) -> Result<(), Fail> {
     for payload in [b"abc".as_slice(), b"", b"d"] {
         put_frame(&mut sent, payload)?;
     }
-    assert_eq!(rt; sent.as_slice(), &stream[..16]);
+    assert!(rt; sent.as_slice() == &stream[..16]);
     for piece in 1..19_usize {
         let mut frames = Frames::new(rt.alloc());
         let mut got = Vec::new(rt.alloc());
@@ -411,9 +406,9 @@ fn cuts_a_stream_in_any_pieces(rt: HostRuntime) -> Result<(), Fail> {
         }
         match got.as_slice() {
             [first, second, third] => {
-                assert_eq!(rt; first.as_slice(), b"abc".as_slice());
-                assert_eq!(rt; second.as_slice(), b"".as_slice());
-                assert_eq!(rt; third.as_slice(), b"d".as_slice());
+                assert!(rt; first.as_slice() == b"abc".as_slice());
+                assert!(rt; second.as_slice() == b"".as_slice());
+                assert!(rt; third.as_slice() == b"d".as_slice());
             }
             _ => panic!(rt; "three payloads in pieces of {piece}"),
         }
@@ -426,7 +421,7 @@ fn limits_a_frame(rt: HostRuntime) -> Result<(), Fail> {
     let mut frames = Frames::new(rt.alloc());
     frames.feed(b"\x00\x20\x00\x01")?;
     let long = OrNoMemory::Fault(FrameFault::FrameTooLong { len: 2_097_153 });
-    assert_eq!(rt; frames.next().err(), Some(long));
+    assert!(rt; frames.next().err() == Some(long));
     let mut frames = Frames::new(rt.alloc());
     frames.feed(b"\x00\x20\x00\x00")?;
     assert!(rt; frames.next()?.is_none());
@@ -435,10 +430,7 @@ fn limits_a_frame(rt: HostRuntime) -> Result<(), Fail> {
         assert!(rt; frames.next()?.is_none());
         frames.feed(&piece)?;
     }
-    assert_eq!(rt;
-        frames.next()?.map(|payload| payload.len()),
-        Some(2_097_152)
-    );
+    assert!(rt; frames.next()?.map(|payload| payload.len()) == Some(2_097_152));
     assert!(rt; frames.next()?.is_none());
     Ok(())
 }

@@ -45,11 +45,11 @@ fn encodes_a_body(rt: HostRuntime) -> Result<(), Fail> {
     assert!(rt; body.is_counted());
     let mut out = Vec::from_slice(rt.alloc(), b"before")?;
     put_body(&mut out, &body)?;
-    assert_eq!(rt; out.len(), 160);
-    assert_eq!(rt; &out[..6], b"before".as_slice());
-    assert_eq!(rt; &out[6..], BODY);
-    assert_eq!(rt; body.body_len(), 154);
-    assert_eq!(rt; Body::new(rt.alloc()).body_len(), 32);
+    assert!(rt; out.len() == 160);
+    assert!(rt; &out[..6] == b"before".as_slice());
+    assert!(rt; &out[6..] == BODY);
+    assert!(rt; body.body_len() == 154);
+    assert!(rt; Body::new(rt.alloc()).body_len() == 32);
     Ok(())
 }
 
@@ -62,11 +62,11 @@ fn is_row(row: &Row, key: &[u8], value: &[u8]) -> bool {
 #[test]
 fn reads_a_body(rt: HostRuntime) -> Result<(), Fail> {
     let body = read_body(rt.alloc(), 1000, BODY)?;
-    assert_eq!(rt; (body.base, body.view, body.commit), (5, 3, 2));
-    assert_eq!(rt; body.views.as_slice(), STARTS.as_slice());
-    assert_eq!(rt; body.peaks.as_slice(), PEAKS.as_slice());
+    assert!(rt; (body.base, body.view, body.commit) == (5, 3, 2));
+    assert!(rt; body.views.as_slice() == STARTS.as_slice());
+    assert!(rt; body.peaks.as_slice() == PEAKS.as_slice());
     let rows = body.rows.as_slice();
-    assert_eq!(rt; rows.len(), 2);
+    assert!(rt; rows.len() == 2);
     assert!(rt; is_row(&rows[0], b"a", b"\x01"));
     assert!(rt; is_row(&rows[1], b"b", b"\x02"));
     Ok(())
@@ -78,7 +78,7 @@ fn tells_where_a_row_stands(rt: HostRuntime) -> Result<(), Fail> {
     for (index, place) in [(0, 120), (1, 137), (2, 154)] {
         assert!(rt; body.is_counted() && index <= body.rows.as_slice().len());
         assert!(rt; body.body_len() < 1000);
-        assert_eq!(rt; body.row_place(1000, index), 1000 + place);
+        assert!(rt; body.row_place(1000, index) == 1000 + place);
     }
     Ok(())
 }
@@ -93,10 +93,7 @@ fn fault_of(alloc: Global, bytes: &[u8]) -> Option<OrNoMemory<ShapeFault>>
 fn reports_where_a_body_is_cut(rt: HostRuntime) -> Result<(), Fail> {
     for len in 0..154 {
         let fault = ShapeFault { at: len + 7 };
-        assert_eq!(rt;
-            fault_of(rt.alloc(), &BODY[..len]),
-            Some(OrNoMemory::Fault(fault))
-        );
+        assert!(rt; fault_of(rt.alloc(), &BODY[..len]) == Some(OrNoMemory::Fault(fault)));
     }
     Ok(())
 }
@@ -135,18 +132,14 @@ fn reports_the_first_fault_of_a_body(rt: HostRuntime) -> Result<(), Fail> {
         assert!(rt; at < changed.len() && changed.len() < 1000 && place < 1000);
         changed[at] = byte;
         let fault = ShapeFault { at: place + 7 };
-        assert_eq!(rt;
-            fault_of(rt.alloc(), &changed),
-            Some(OrNoMemory::Fault(fault)),
+        assert!(rt;
+            fault_of(rt.alloc(), &changed) == Some(OrNoMemory::Fault(fault)),
             "{byte} at {at}"
         );
     }
     let mut longer = Vec::from_slice(rt.alloc(), BODY)?;
     longer.push(0)?;
     let fault = ShapeFault { at: 161 };
-    assert_eq!(rt;
-        fault_of(rt.alloc(), &longer),
-        Some(OrNoMemory::Fault(fault))
-    );
+    assert!(rt; fault_of(rt.alloc(), &longer) == Some(OrNoMemory::Fault(fault)));
     Ok(())
 }

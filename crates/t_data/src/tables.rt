@@ -83,12 +83,9 @@ fn cuts_to_the_compacted_place(rt: HostRuntime) -> Result<(), Fail> {
     let mut tables = three_writes(rt.alloc())?;
     tables.compact(2);
     tables.cut(2);
-    assert_eq!(rt;
-        (seen(&tables, b"a"), seen(&tables, b"b")),
-        ((1, true), (2, true))
-    );
+    assert!(rt; (seen(&tables, b"a"), seen(&tables, b"b")) == ((1, true), (2, true)));
     assert!(rt; has_value(&tables, b"public:x", b"a", b"\x01"));
-    assert_eq!(rt; tables.size(b"public:x"), 2);
+    assert!(rt; tables.size(b"public:x") == 2);
     Ok(())
 }
 
@@ -96,11 +93,8 @@ fn cuts_to_the_compacted_place(rt: HostRuntime) -> Result<(), Fail> {
 fn keeps_the_version_of_a_removal(rt: HostRuntime) -> Result<(), Fail> {
     let mut tables = three_writes(rt.alloc())?;
     tables.compact(3);
-    assert_eq!(rt; seen(&tables, b"a"), (3, false));
-    assert_eq!(rt;
-        (tables.map_version(b"public:x"), tables.size(b"public:x")),
-        (3, 1)
-    );
+    assert!(rt; seen(&tables, b"a") == (3, false));
+    assert!(rt; (tables.map_version(b"public:x"), tables.size(b"public:x")) == (3, 1));
     Ok(())
 }
 
@@ -109,20 +103,20 @@ fn gives_the_rows_of_a_place(rt: HostRuntime) -> Result<(), Fail> {
     let tables = three_writes(rt.alloc())?;
     let wanted: [(&[u8], &[u8]); 2] = [(b"a", b"\x01"), (b"b", b"\x02")];
     let rows = tables.rows(2)?;
-    assert_eq!(rt; rows.as_slice().len(), wanted.len());
+    assert!(rt; rows.as_slice().len() == wanted.len());
     for (row, (key, value)) in rows.as_slice().iter().zip(wanted) {
-        assert_eq!(rt; row.map.as_slice(), b"public:x".as_slice());
-        assert_eq!(rt; row.key.as_slice(), key);
-        assert_eq!(rt; row.value.as_slice(), value);
+        assert!(rt; row.map.as_slice() == b"public:x".as_slice());
+        assert!(rt; row.key.as_slice() == key);
+        assert!(rt; row.value.as_slice() == value);
     }
     let last = tables.rows(3)?;
-    assert_eq!(rt; last.as_slice().len(), 1);
+    assert!(rt; last.as_slice().len() == 1);
     for row in last.as_slice() {
-        assert_eq!(rt; row.key.as_slice(), b"b".as_slice());
-        assert_eq!(rt; row.value.as_slice(), b"\x02".as_slice());
+        assert!(rt; row.key.as_slice() == b"b".as_slice());
+        assert!(rt; row.value.as_slice() == b"\x02".as_slice());
     }
     let begun = Tables::at_base(rt.alloc(), 2, rows)?;
     assert!(rt; has_value(&begun, b"public:x", b"a", b"\x01"));
-    assert_eq!(rt; begun.size(b"public:x"), 2);
+    assert!(rt; begun.size(b"public:x") == 2);
     Ok(())
 }

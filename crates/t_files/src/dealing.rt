@@ -57,14 +57,14 @@ const TWO_OF_THREE: &str = "\
 #[test]
 fn deals_to_two_members(rt: HostRuntime) -> Result<(), Fail> {
     let text = deal_text(rt.alloc(), 1, &[7, 9], &SECRET, SEED)?;
-    assert_eq!(rt; text.as_slice(), ONE_OF_TWO.as_bytes());
+    assert!(rt; text.as_slice() == ONE_OF_TWO.as_bytes());
     Ok(())
 }
 
 #[test]
 fn deals_to_three_members(rt: HostRuntime) -> Result<(), Fail> {
     let text = deal_text(rt.alloc(), 2, &[1, 2, 255], &SECRET, SEED)?;
-    assert_eq!(rt; text.as_slice(), TWO_OF_THREE.as_bytes());
+    assert!(rt; text.as_slice() == TWO_OF_THREE.as_bytes());
     Ok(())
 }
 

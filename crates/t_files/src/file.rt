@@ -25,11 +25,11 @@ fn append<D: Disk>(disk: &mut D, text: &[u8]) -> Result<(), Fail> {
 fn written<R: Files<File = File> + Abort>(rt: &R, path: &str) -> Result<FileDisk, Fail> {
     let _ = fs::remove_file(rt, path);
     let mut disk = FileDisk::open(rt, path);
-    assert_eq!(rt; disk.len(), Ok(0));
+    assert!(rt; disk.len() == Ok(0));
     append(&mut disk, b"abc")?;
     append(&mut disk, b"def")?;
     disk.write_at(4, b"XYZ")?;
-    assert_eq!(rt; fs::metadata(rt, path)?.mode() & 0o777, 0o600);
+    assert!(rt; fs::metadata(rt, path)?.mode() & 0o777 == 0o600);
     Ok(disk)
 }
 
@@ -37,10 +37,7 @@ fn written<R: Files<File = File> + Abort>(rt: &R, path: &str) -> Result<FileDisk
 fn find_locked<R: Files<File = File> + Abort>(rt: &R, path: &str) -> Result<(), Fail> {
     let mut disk = FileDisk::open(rt, path);
     assert!(rt; matches!(&disk.failure, Some(failure) if failure.call == DiskCall::Lock));
-    assert_eq!(rt;
-        (disk.write_at(0, b"other"), disk.faults()),
-        (Err(DiskFailed), 1)
-    );
+    assert!(rt; (disk.write_at(0, b"other"), disk.faults()) == (Err(DiskFailed), 1));
     Ok(())
 }
 
@@ -48,12 +45,12 @@ fn find_locked<R: Files<File = File> + Abort>(rt: &R, path: &str) -> Result<(), 
 fn find<R: Files<File = File> + Abort>(rt: &R, path: &str) -> Result<(), Fail> {
     let mut disk = FileDisk::open(rt, path);
     let mut all = [0; 7];
-    assert_eq!(rt; disk.len(), Ok(7));
+    assert!(rt; disk.len() == Ok(7));
     disk.read_at(0, &mut all)?;
-    assert_eq!(rt; (all, disk.faults()), (*b"abcdXYZ", 0));
+    assert!(rt; (all, disk.faults()) == (*b"abcdXYZ", 0));
     let past = [disk.read_at(1, &mut all), disk.read_at(u64::MAX, &mut [])];
-    assert_eq!(rt; past, [Err(DiskFailed); 2]);
-    assert_eq!(rt; disk.faults(), 2);
+    assert!(rt; past == [Err(DiskFailed); 2]);
+    assert!(rt; disk.faults() == 2);
     Ok(())
 }
 
@@ -63,7 +60,7 @@ fn keeps_what_was_written(rt: HostRuntime) -> Result<(), Fail> {
     for path in ["gl_file_kept.disk", "gl_file_folder/kept.disk"] {
         let disk = written(&rt, path)?;
         find_locked(&rt, path)?;
-        assert_eq!(rt; disk.faults(), 0);
+        assert!(rt; disk.faults() == 0);
         drop(disk);
         find(&rt, path)?;
         fs::remove_file(&rt, path)?;
@@ -80,8 +77,8 @@ fn counts_each_call_without_a_file(rt: HostRuntime) -> Result<(), Fail> {
         assert!(rt; disk.file.is_none(), "{path}");
         let len = disk.len();
         let calls = [disk.read_at(0, &mut []), disk.write_at(0, b""), disk.sync()];
-        assert_eq!(rt; (len, calls), (Err(DiskFailed), [Err(DiskFailed); 3]));
-        assert_eq!(rt; disk.faults(), 4);
+        assert!(rt; (len, calls) == (Err(DiskFailed), [Err(DiskFailed); 3]));
+        assert!(rt; disk.faults() == 4);
     }
     Ok(())
 }
@@ -184,12 +181,15 @@ fn takes_pieces_whole_and_counts_each_failure_once(rt: HostRuntime) -> Result<()
         let read = disk.read_at(0, &mut back);
         let printed = [wrote.is_ok(), synced.is_ok(), read.is_ok()];
         let output = [failing > 5, failing > 5, failing > 10];
-        assert_eq!(rt; (printed, disk.faults()), (output, faults), "at {failing}");
+        assert!(rt;
+            (printed, disk.faults()) == (output, faults),
+            "at {failing}"
+        );
         let call = match &disk.failure {
             None => None,
             Some(failure) => Some(failure.call),
         };
-        assert_eq!(rt; call, last, "at {failing}");
+        assert!(rt; call == last, "at {failing}");
         assert!(rt; read.is_err() || back == *b"galdoxe");
     }
     Ok(())
@@ -202,7 +202,7 @@ fn goes_on_where_a_signal_came(rt: HostRuntime) -> Result<(), Fail> {
         disk.write_at(0, b"galdoxe")?;
         let mut back = [0; 7];
         disk.read_at(0, &mut back)?;
-        assert_eq!(rt; (back, disk.faults()), (*b"galdoxe", 0));
+        assert!(rt; (back, disk.faults()) == (*b"galdoxe", 0));
     }
     Ok(())
 }

@@ -115,7 +115,7 @@ fn a_key_has_the_form_of_its_kind(rt: HostRuntime) -> Result<(), Fail> {
     ] {
         let (kind, _, _) = output;
         let form = key_form(rt.alloc(), &key_of(kind))?;
-        assert_eq!(rt; digests(&form), output);
+        assert!(rt; digests(&form) == output);
         assert!(rt;
             !matches!(
                 form,
@@ -133,10 +133,10 @@ fn a_key_has_the_form_of_its_kind(rt: HostRuntime) -> Result<(), Fail> {
 fn a_file_that_was_begun_opens_to_its_key(rt: HostRuntime) -> Result<(), Fail> {
     let alloc = rt.alloc();
     let disk = created(alloc)?.into_disk();
-    assert_eq!(rt; disk.bytes.len(), 53);
+    assert!(rt; disk.bytes.len() == 53);
     let file = opened(alloc, &disk.bytes, KeyKind::Member)?;
-    assert_eq!(rt; *file.key(), key_of(KeyKind::Member));
-    assert_eq!(rt; (file.reserved(), file.start()), (0, None));
+    assert!(rt; *file.key() == key_of(KeyKind::Member));
+    assert!(rt; (file.reserved(), file.start()) == (0, None));
     Ok(())
 }
 
@@ -148,7 +148,7 @@ fn a_file_opens_for_its_kind_alone(rt: HostRuntime) -> Result<(), Fail> {
         want: KeyKind::Node,
         got: KeyKind::Member,
     };
-    assert_eq!(rt; error, Some(OrNoMemory::Fault(fault)));
+    assert!(rt; error == Some(OrNoMemory::Fault(fault)));
     Ok(())
 }
 
@@ -161,8 +161,8 @@ fn no_file_is_begun_on_a_disk_that_holds_one(rt: HostRuntime) -> Result<(), Fail
         return Err(Fail::from("begun on a disk that holds a file"));
     };
     let fault = KeyFileFault::Journal(JournalFault::NotEmpty { len: 53 });
-    assert_eq!(rt; error, OrNoMemory::Fault(fault));
-    assert_eq!(rt; disk.bytes.len(), 53);
+    assert!(rt; error == OrNoMemory::Fault(fault));
+    assert!(rt; disk.bytes.len() == 53);
     Ok(())
 }
 
@@ -172,11 +172,11 @@ fn a_key_of_height_5_has_32_leaves(rt: HostRuntime) -> Result<(), Fail> {
     let mut disk = created(alloc)?.into_disk();
     for leaf in 0..32 {
         let taken = next_leaf(alloc, &disk.bytes, LeafUse::Signature)?;
-        assert_eq!(rt; taken.leaf, leaf);
+        assert!(rt; taken.leaf == leaf);
         disk = taken.disk;
     }
     let error = next_leaf(alloc, &disk.bytes, LeafUse::Start).err();
-    assert_eq!(rt; error, Some(OrNoMemory::Fault(NO_LEAF)));
+    assert!(rt; error == Some(OrNoMemory::Fault(NO_LEAF)));
     Ok(())
 }
 
@@ -215,10 +215,10 @@ fn a_stop_leaves_the_leaf_or_the_next_one(rt: HostRuntime) -> Result<(), Fail> {
     let alloc = rt.alloc();
     let begun = created(alloc)?.into_disk();
     for (leaf_use, output) in [(LeafUse::Signature, None), (LeafUse::Start, Some(1))] {
-        assert_eq!(rt; count_images(alloc, &begun.bytes, leaf_use)?, [19, 6]);
+        assert!(rt; count_images(alloc, &begun.bytes, leaf_use)? == [19, 6]);
         let (disk, start) = taken(alloc, &begun.bytes, leaf_use)?;
-        assert_eq!(rt; start, output);
-        assert_eq!(rt; count_images(alloc, &disk.bytes, leaf_use)?, [19, 6]);
+        assert!(rt; start == output);
+        assert!(rt; count_images(alloc, &disk.bytes, leaf_use)? == [19, 6]);
     }
     Ok(())
 }
@@ -270,7 +270,7 @@ fn each_call_of_the_disk_fails_in_turn(rt: HostRuntime) -> Result<(), Fail> {
         };
         *count = count.saturating_add(1);
     }
-    assert_eq!(rt; ends, [8, 4, 1]);
+    assert!(rt; ends == [8, 4, 1]);
     Ok(())
 }
 
@@ -287,10 +287,10 @@ fn a_fault_while_a_file_is_opened_is_printed(rt: HostRuntime) -> Result<(), Fail
             disk,
             KeyKind::Member,
         ) {
-            assert_eq!(rt; (error, disk.faults()), (DISK_FAULT, 1));
+            assert!(rt; (error, disk.faults()) == (DISK_FAULT, 1));
             faults = faults.saturating_add(1);
         }
     }
-    assert_eq!(rt; faults, 3);
+    assert!(rt; faults == 3);
     Ok(())
 }

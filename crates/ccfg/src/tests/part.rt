@@ -4,7 +4,7 @@ use gl_outside::Traffic;
 use std::alloc::{AllocError, Global};
 
 /// What a run left.
-#[derive(Debug, Drop)]
+#[derive(Drop)]
 pub struct Left {
     pub name: &'static str,
     pub status: u8,
@@ -28,7 +28,7 @@ pub struct Left {
 pub type Lines<'a> = &'a [(&'a str, &'a str)];
 
 /// Bytes that an earlier run left, by its name.
-#[derive(Clone, Copy, Debug)]
+#[derive(Clone, Copy)]
 pub enum Of {
     /// What it wrote.
     Written(&'static str),
@@ -43,7 +43,7 @@ pub enum Of {
 }
 
 /// Bytes of an input, or of the expected output.
-#[derive(Clone, Copy, Debug)]
+#[derive(Clone, Copy)]
 pub enum Part<'a> {
     Text(&'a str),
     Bytes(&'a [u8]),

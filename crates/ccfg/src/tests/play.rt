@@ -10,14 +10,14 @@ use gl_outside::{
 use std::alloc::{AllocError, Global};
 
 /// What comes over a link, as bytes.
-#[derive(Debug, Drop)]
+#[derive(Drop)]
 enum Coming {
     Bytes(u64, Vec<u8>),
     Tick,
 }
 
 /// What a run is given, as bytes.
-#[derive(Debug, Drop)]
+#[derive(Drop)]
 struct Prepared {
     words: Vec<String>,
     input: Vec<u8>,
@@ -99,7 +99,7 @@ fn incoming_of(alloc: Global, coming: &[Coming]) -> Result<Vec<Incoming<'_>>, Al
 }
 
 /// A call that is to fail, alone of its object, from 1.
-#[derive(Clone, Copy, Debug)]
+#[derive(Clone, Copy)]
 pub struct Failing {
     pub what: InTurn,
     pub call: u64,

@@ -3,7 +3,7 @@
 use crate::tests::part::Part;
 
 /// What comes over a link.
-#[derive(Clone, Copy, Debug)]
+#[derive(Clone, Copy)]
 pub enum Arrival<'a> {
     /// Bytes of a connection.
     Bytes(u64, &'a [Part<'a>]),
@@ -16,7 +16,7 @@ pub enum Arrival<'a> {
 }
 
 /// The expected output on the sink.
-#[derive(Clone, Copy, Debug)]
+#[derive(Clone, Copy)]
 pub enum Output<'a> {
     /// These bytes.
     Is(&'a [Part<'a>]),
@@ -35,7 +35,7 @@ pub enum Output<'a> {
 }
 
 /// A frame that is expected on a connection.
-#[derive(Clone, Copy, Debug)]
+#[derive(Clone, Copy)]
 pub enum Frame<'a> {
     /// These bytes, with the length before them.
     Whole(u64, &'a [Part<'a>]),
@@ -63,7 +63,7 @@ pub enum InTurn {
 }
 
 /// A run. Of each object the calls with these numbers fail, from 1.
-#[derive(Clone, Copy, Debug)]
+#[derive(Clone, Copy)]
 pub struct Run<'a> {
     pub name: &'static str,
     /// The words. For `$key of NAME` and `$node of NAME` stand the key and the identifier in the

@@ -10,7 +10,7 @@ use std::alloc::{AllocError, Global};
 
 /// A run that stops, and what is run over each image of its disk. No leaf of the file's key signs
 /// twice in the earlier runs, the one that stops and those after it.
-#[derive(Clone, Copy, Debug)]
+#[derive(Clone, Copy)]
 pub struct Stop<'a> {
     pub name: &'static str,
     /// The run. Once it stopped, the image is its disk.

@@ -10,7 +10,7 @@ use std::alloc::{AllocError, Global};
 use std::process::Abort;
 
 /// Runs that were played, and what they left.
-#[derive(Debug, Drop)]
+#[derive(Drop)]
 pub struct Table {
     alloc: Global,
     lefts: Vec<Left>,

@@ -32,7 +32,7 @@ fn has_leaf(signature: &[u8]) -> bool {
 }
 
 /// Signatures by one key, each once.
-#[derive(Debug, Drop)]
+#[derive(Drop)]
 pub struct Told {
     alloc: Global,
     /// What stands before each signature by the key.

@@ -8,14 +8,14 @@ use std::test::Fail;
 #[test]
 fn keys_of_levels(rt: HostRuntime) -> Result<(), Fail> {
     let key = LmsKey::make(rt.alloc(), [1; 32], Types::H5W4)?;
-    assert_eq!(rt; key.types(), Types::H5W4);
+    assert!(rt; key.types() == Types::H5W4);
     for (levels, count) in [(Levels::One, 1), (Levels::Two, 2)] {
         let public = key.hss_public(levels);
-        assert_eq!(rt; &public[..4], [0, 0, 0, count].as_slice());
-        assert_eq!(rt; &public[4..], key.public().as_slice());
-        assert_eq!(rt; Levels::of_key(&public), Some(levels));
+        assert!(rt; &public[..4] == [0, 0, 0, count].as_slice());
+        assert!(rt; &public[4..] == key.public().as_slice());
+        assert!(rt; Levels::of_key(&public) == Some(levels));
     }
-    assert_eq!(rt; Levels::of_key(&[0; 60]), None);
+    assert!(rt; Levels::of_key(&[0; 60]) == None);
     Ok(())
 }
 
@@ -23,15 +23,15 @@ fn keys_of_levels(rt: HostRuntime) -> Result<(), Fail> {
 fn a_signature_and_its_leaf(rt: HostRuntime) -> Result<(), Fail> {
     let key = LmsKey::make(rt.alloc(), [1; 32], Types::H5W4)?;
     let mut signer = HssSigner::new(key, None, 3);
-    assert_eq!(rt; (signer.reserved(), signer.used()), (3, 3));
-    assert_eq!(rt; signer.reserve(), Ok(4));
+    assert!(rt; (signer.reserved(), signer.used()) == (3, 3));
+    assert!(rt; signer.reserve() == Ok(4));
     let first = signer.signature(b"message")?;
-    assert_eq!(rt; (signer.reserved(), signer.used()), (4, 3));
+    assert!(rt; (signer.reserved(), signer.used()) == (4, 3));
     let second = signer.sign(b"message")?;
-    assert_eq!(rt; first.as_slice(), second.as_slice());
-    assert_eq!(rt; (signer.reserved(), signer.used()), (4, 4));
+    assert!(rt; first.as_slice() == second.as_slice());
+    assert!(rt; (signer.reserved(), signer.used()) == (4, 4));
     let public = signer.key().hss_public(Levels::One);
-    assert_eq!(rt; verify(&public, b"message", &first), Ok(()));
+    assert!(rt; verify(&public, b"message", &first) == Ok(()));
     Ok(())
 }
 
@@ -41,16 +41,16 @@ fn each_leaf_once(rt: HostRuntime) -> Result<(), Fail> {
     let public = key.hss_public(Levels::One);
     let mut signer = HssSigner::new(key, None, 0);
     let refused = signer.sign(b"early").err();
-    assert_eq!(rt; refused, Some(SignFault::NotReserved { reserved: 0 }));
+    assert!(rt; refused == Some(SignFault::NotReserved { reserved: 0 }));
     for leaf in 0..32u8 {
-        assert_eq!(rt; signer.reserve(), Ok(u32::from(leaf) + 1));
+        assert!(rt; signer.reserve() == Ok(u32::from(leaf) + 1));
         let signature = signer.sign(&[leaf])?;
-        assert_eq!(rt; verify(&public, &[leaf], &signature), Ok(()));
-        assert_eq!(rt; leaf_of(&signature), Ok(u32::from(leaf)));
+        assert!(rt; verify(&public, &[leaf], &signature) == Ok(()));
+        assert!(rt; leaf_of(&signature) == Ok(u32::from(leaf)));
     }
-    assert_eq!(rt; signer.reserve(), Err(KeyExhausted { reserved: 32 }));
+    assert!(rt; signer.reserve() == Err(KeyExhausted { reserved: 32 }));
     let refused = signer.sign(b"late").err();
-    assert_eq!(rt; refused, Some(SignFault::NotReserved { reserved: 32 }));
+    assert!(rt; refused == Some(SignFault::NotReserved { reserved: 32 }));
     Ok(())
 }
 
@@ -61,29 +61,29 @@ fn two_levels(rt: HostRuntime) -> Result<(), Fail> {
     let key = LmsKey::make(rt.alloc(), [3; 32], Types::H5W4)?;
     let endorsement = top.sign_leaf(7, &key.public())?;
     let mut signer = HssSigner::new(key, Some(endorsement), 5);
-    assert_eq!(rt; signer.reserve(), Ok(6));
+    assert!(rt; signer.reserve() == Ok(6));
     let mut signature = signer.sign(b"message")?;
-    assert_eq!(rt; signature.len(), 4756);
-    assert_eq!(rt; verify(&public, b"message", &signature), Ok(()));
-    assert_eq!(rt; leaf_of(&signature), Ok(5));
+    assert!(rt; signature.len() == 4756);
+    assert!(rt; verify(&public, b"message", &signature) == Ok(()));
+    assert!(rt; leaf_of(&signature) == Ok(5));
     let short = signature.get(..4755).ok_or("a shorter signature")?;
     let fault = HssFault::Length {
         want: 4756,
         got: 4755,
     };
-    assert_eq!(rt; verify(&public, b"message", short), Err(fault));
+    assert!(rt; verify(&public, b"message", short) == Err(fault));
     signature.push(0)?;
     let fault = HssFault::Length {
         want: 4756,
         got: 4757,
     };
-    assert_eq!(rt; verify(&public, b"message", &signature), Err(fault));
+    assert!(rt; verify(&public, b"message", &signature) == Err(fault));
     if let Some(byte) = signature.get_mut(3) {
         *byte = 2;
     }
     let fault = HssFault::Levels { want: 1, got: 2 };
-    assert_eq!(rt; verify(&public, b"message", &signature), Err(fault));
-    assert_eq!(rt; leaf_of(&signature), Err(fault));
+    assert!(rt; verify(&public, b"message", &signature) == Err(fault));
+    assert!(rt; leaf_of(&signature) == Err(fault));
     Ok(())
 }
 
@@ -111,9 +111,9 @@ fn lengths_wanted(rt: HostRuntime) -> Result<(), Fail> {
         let part = signature.get(..cut).ok_or("a part of the signature")?;
         let got = cut as u64;
         let fault = HssFault::Length { want: known, got };
-        assert_eq!(rt; verify(&public, b"message", part), Err(fault), "{cut}");
+        assert!(rt; verify(&public, b"message", part) == Err(fault), "{cut}");
         let fault = HssFault::Length { want: unknown, got };
-        assert_eq!(rt; leaf_of(part), Err(fault), "{cut}");
+        assert!(rt; leaf_of(part) == Err(fault), "{cut}");
     }
     Ok(())
 }

@@ -1,6 +1,5 @@
-use Rattle.std.proofs.Common.{◌≡◌, None, Some, Ok, Err, sym, ◌∙◌, ap}
+use Rattle.std.proofs.Common.{Err, sym, ◌∙◌, ap}
 use Rattle.gl_gov_rules.specs.History.{no_history}
-use Rattle.gl_gov_rules.specs.Refusals.{genesis_refusal}
 use Rattle.gl_consortium.specs.ExpectedOutput.{is_accepted, unless_refused}
 use Rattle.gl_consortium.proofs.Foundings.{answered, refused_so}
 use Rattle.gl_consortium.proofs.opening_ledger.check_accepted.Goals as goal

@@ -8,7 +8,7 @@ use Rattle.gl_config.specs.declared.configuration.Configuration.{Configuration}
 use Rattle.gl_rules.specs.Configuration.{active, configurations_above}
 use Rattle.gl_config.specs.Active.{above, active_of, sets_of, configurations_of}
 use Rattle.gl_store_book.proofs.Actives.{active_at, above_upto}
-use Rattle.gl_store_book.proofs.Growing.{none_begins}
+use Rattle.gl_store_book.proofs.WholeLists.{none_begins}
 use Rattle.gl_store_book.proofs.book.StoreBookBook.configurations.Goals as goal
 
 pub returns-clause-active : goal.returns-clause-active

@@ -1,4 +1,4 @@
-use Rattle.gl_store_book.proofs.Growing.{listed_after}
+use Rattle.gl_store_book.proofs.WholeLists.{listed_after}
 use Rattle.gl_store_book.proofs.book_ledger.BookLedger.apply_quiet.Goals as goal
 
 pub invariant_of-self-2 : goal.invariant_of-self-2

@@ -6,7 +6,7 @@ use Rattle.gl_ledger.specs.NodeKeys.{service_layers}
 use Rattle.gl_ledger.specs.Makers.{MayMake}
 use Rattle.gl_ledger.specs.declared.response.Response.TheVariants.{Replied}
 use Rattle.gl_store_book.specs.Taken.{Takes, executed}
-use Rattle.gl_store_book.proofs.Growing.{listed_after}
+use Rattle.gl_store_book.proofs.WholeLists.{listed_after}
 use Rattle.gl_store_book.proofs.TakenEntries.{request_quiet, takes_untried}
 use Rattle.gl_store_book.proofs.book_ledger.BookLedger.execute_untried.Goals as goal
 

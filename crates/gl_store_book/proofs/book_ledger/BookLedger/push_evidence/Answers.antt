@@ -5,7 +5,7 @@ use Rattle.gl_ledger.specs.Broken.{broken}
 use Rattle.gl_ledger.specs.Makers.{MayMake}
 use Rattle.gl_ledger.proofs.Valid.{may_make_after}
 use Rattle.gl_audit.specs.Committed.{Held}
-use Rattle.gl_store_book.proofs.Growing.{listed_after}
+use Rattle.gl_store_book.proofs.WholeLists.{listed_after}
 use Rattle.gl_store_book.proofs.TakenEvidence.{evidence_quiet, evidence_unbroken, takes_evidence}
 use Rattle.gl_store_book.proofs.book_ledger.BookLedger.push_evidence.Goals as goal
 

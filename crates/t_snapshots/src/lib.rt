@@ -1,0 +1,14 @@
+//! Tests of snapshots: their bodies against what a program in Python says of the same ledger, a
+//! ledger that begins behind one, and files of one that are whole, cut and changed.
+#![tactic(auto)]
+
+#[cfg(test)]
+mod bases;
+#[cfg(test)]
+mod bodies;
+#[cfg(test)]
+mod file;
+#[cfg(test)]
+mod ledger;
+#[cfg(test)]
+mod owed;

@@ -1,5 +1,5 @@
 -- The file of a node at the start of a service keeps it.
-use Rattle.std.proofs.Common.{◌≡◌, ⊎_elim, ◌≤◌, ◌<◌, ◌+◌, ◌*◌, ◌^◌, ℕ, suc, List, [], ◌∷◌, ◌++◌, length, length-append, map, get_or, take, Bool, true, false, ◌||◌, Option, None, Some, slice_get, if◌then◌else◌, refl, sym, ap, ap₂, subst, ◌∙◌, arith, le-ltb}
+use Rattle.std.proofs.Common.{◌≡◌, ⊎_elim, ◌≤◌, ◌<◌, ◌+◌, ◌*◌, ◌^◌, ℕ, suc, List, [], ◌∷◌, ◌++◌, length, length-append, map, get_or, take, drop, Bool, true, false, ◌||◌, Option, None, Some, slice_get, if◌then◌else◌, refl, sym, ap, ap₂, subst, ◌∙◌, arith, le-ltb}
 use Rattle.std.specs.List.{AllByRecursion, flat_map}
 use Rattle.std.proofs.lemmas.Grind.{flat_map-append}
 use Rattle.std.proofs.lemmas.List.{append-nil}
@@ -19,7 +19,7 @@ use Rattle.gl_journal.specs.declared.key.KeyKind.TheVariants as kinds
 use Rattle.gl_ledger.specs.Audit.{audited}
 use Rattle.gl_ledger.specs.NodeKeys.{service_layers}
 use Rattle.gl_replication.specs.Holding.{Holding}
-use Rattle.gl_replication.specs.Stands.{StandsFor}
+use Rattle.gl_replication.specs.Stands.{StandsFor, held_by}
 use Rattle.gl_node.specs.Persistence.{IsServing}
 use Rattle.gl_world.specs.declared.settings.Settings.{Settings}
 use Rattle.gl_world.specs.Founding.{id_of, keys_of}
@@ -31,12 +31,13 @@ use Rattle.gl_world.proofs.NodeIds.{number_is}
 use Rattle.gl_store_book.specs.AtOpening.{append_records}
 use Rattle.ccfg.specs.FileNodes.{IsFileIn, IsMemoryFile, SeenFileNode, StandsOverFile}
 use Rattle.gl_store_book.specs.Frames.{goes_on_ledger}
-use Rattle.gl_store_book.specs.Stands.{NodeStore, Stands, no_snapshot}
+use Rattle.gl_store_book.specs.BasedLedgers.{body_of}
+use Rattle.gl_store_book.specs.Stands.{NodeStore, Stands, snapshot_below}
+use Rattle.gl_store_book.proofs.HeldLedgers.{held_in, holds_above, none_at_start}
 use Rattle.gl_store_book.proofs.Batches.{before}
 use Rattle.gl_store_book.proofs.FrameLaws.{AllFit}
 use Rattle.gl_store_book.proofs.OpeningFolds.{appends_fold}
 use Rattle.gl_store_book.proofs.OpeningSizes.{append_len, records_bytes-append}
-use Rattle.gl_store_book.proofs.ServedNodes.{held_in, holds_whole}
 
 -- ---- the frames of a ledger
 
@@ -58,12 +59,12 @@ pub leaves_fold : (d : Durable) (r : ℕ) → d.reserved ≤ r → r ≤ leaf_co
 leaves_fold d r low high =
     ap₂ (λ (s t : Bool). then_some (if s || t then None else Some (record d { reserved = r })) (λ (e : Durable). Some e)) (le-ltb r d.reserved low) (le-ltb (leaf_count d) r high)
 
-pub node_folds : (d : Durable) (view : ℕ) (vote : Option NodeId) (ledger : List Entry) → audited service_layers ledger ≡ None → AllFit ledger → d.log ≡ [] → d.view ≤ view →
+pub node_folds : (d : Durable) (view : ℕ) (vote : Option NodeId) (ledger : List Entry) → audited service_layers ledger ≡ None → AllFit ledger → d.log ≡ [] → d.snapshot ≡ None → d.view ≤ view →
     fold_records goes_on_ledger d (Vote view vote ∷ append_records ledger) ≡ Some (record d { view = view; vote = vote; has_vote_record = true; log = map frame_bytes ledger })
-node_folds d view vote ledger valid fit none low =
+node_folds d view vote ledger valid fit none behind low =
     let next : Durable = record d { view = view; vote = vote; has_vote_record = true } in
     ap (λ (b : Bool). then_some (if b then None else Some next) (λ (s : Durable). fold_records goes_on_ledger s (append_records ledger))) (le-ltb view d.view low)
-    ∙ appends_fold next [] ledger valid fit none
+    ∙ appends_fold next [] ledger valid fit behind none
 
 -- ---- how many bytes they have
 
@@ -102,9 +103,21 @@ module _ (s : Settings) (x : NodeId) (core : ServiceCore NodeStore) (stood : Sta
       let two : 2 ≤ (node_at_start (start_of s) x).view = at_start (λ (m : Node Entry). 2 ≤ m.view) (start_of s) x (omega arith) (omega arith) (omega arith) in
       omega (arith, is, two)
 
-  pub few_at_start : length core.book.ledger ≤ 2
+  base_at_start : (node_at_start (start_of s) x).base ≡ 0
+  base_at_start = at_start (λ (m : Node Entry). m.base ≡ 0) (start_of s) x refl refl refl
+
+  -- its ledger is whole
+  pub whole_at_start : core.book.ledger.snapshot ≡ None
+  whole_at_start = none_at_start core.book.ledger.snapshot stood.ledger.holding.spelled (sym stood.ledger.holding.base ∙ base_at_start)
+
+  ledger_at_start : (node_at_start (start_of s) x).log ≡ core.book.ledger.entries
+  ledger_at_start =
+      let n = node_at_start (start_of s) x in
+      ap (λ (i : ℕ). drop i n.log) (sym base_at_start) ∙ (holds_above core.book (book_of s) (held_by x n) stood.ledger).entries
+
+  pub few_at_start : length core.book.ledger.entries ≤ 2
   few_at_start =
-      let is = ap (λ (h : Holding Entry). length h.log) stood.ledger.holding in
+      let is = ap (λ (l : List Entry). length l) ledger_at_start in
       let few : length (node_at_start (start_of s) x).log ≤ 2 = at_start (λ (m : Node Entry). length m.log ≤ 2) (start_of s) x (omega arith) (omega arith) (omega arith) in
       omega (arith, is, few)
 
@@ -121,7 +134,7 @@ state_with seed core = record (key_alone (record { kind = kinds.Node; types = H5
   view = core.peer.view;
   vote = core.peer.vote;
   has_vote_record = true;
-  log = map frame_bytes core.book.ledger;
+  log = map frame_bytes core.book.ledger.entries;
 }
 
 abbrev pub state_at_start : Settings → ℕ → ServiceCore NodeStore → Durable
@@ -136,16 +149,16 @@ module _ (s : Settings) (h : IsGroup s) (number : ℕ) (low : 1 ≤ number) (hig
     key = ap (λ (n : ℕ). private_key (node_seed s n)) (number_is s h number low high);
   }
 
-  pub serving_at_start : (journal : Journal HeldDisk) (n : Node Entry) → StandsFor Stands core (book_of s) (id_of s number) n → IsMemoryFile journal (state_at_start s number core) →
-      IsServing Stands held_in no_snapshot goes_on_ledger true (λ (disk : HeldDisk). disk.bytes) (λ (disk : HeldDisk). disk.past) core journal
-  serving_at_start journal n stood file = record {
+  pub serving_at_start : (journal : Journal HeldDisk) (n : Node Entry) → StandsFor Stands core (book_of s) (id_of s number) n → core.book.ledger.snapshot ≡ None → IsMemoryFile journal (state_at_start s number core) →
+      IsServing Stands held_in snapshot_below goes_on_ledger true (λ (disk : HeldDisk). disk.bytes) (λ (disk : HeldDisk). disk.past) core journal
+  serving_at_start journal n stood none file = record {
     some = record { rules = book_of s; me = id_of s number; node = n; standing = stood };
-    above = holds_whole core.book;
+    above = holds_above core.book;
     file = λ honest. record {
       kept = file.kept honest;
       state = state_at_start s number core;
       opens = file.opens honest;
-      keeps = record { view = refl; vote = refl; base = refl; snapshot = refl; log = refl; reserved = refl };
+      keeps = record { view = refl; vote = refl; base = ap (λ (o : Option (List ℕ)). (body_of o).base) (sym none); snapshot = sym none; log = refl; reserved = refl };
       leaves = refl;
     };
   }

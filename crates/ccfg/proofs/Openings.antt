@@ -8,6 +8,7 @@ use Rattle.gl_hss.specs.Tree.{key_bytes}
 use Rattle.gl_hss.specs.Secrets.{PrivateKey, public_of}
 use Rattle.gl_rules.specs.Identity.{NodeId, same}
 use Rattle.gl_requests.specs.declared.genesis.Genesis as request
+use Rattle.gl_ledger.specs.LedgerBook.{ledger_book}
 use Rattle.gl_ledger.specs.NodeKeys.{service_layers}
 use Rattle.gl_ledger.specs.OpeningLedger.{Founds}
 use Rattle.gl_world.specs.declared.settings.Settings.{Settings}
@@ -21,7 +22,9 @@ use Rattle.gl_world.specs.World.{start_of}
 use Rattle.gl_world.proofs.Groups.{group_founds}
 use Rattle.gl_world.proofs.NodeIds.{number_is}
 use Rattle.ccfg.specs.OpeningStores.{IsOfNode, HaveOpened, opened_at}
-use Rattle.gl_store_book.specs.Stands.{HasKey, NodeStore, Stands, whole}
+use Rattle.gl_store_book.specs.BasedLedgers.{BasedLedger, whole_ledger}
+use Rattle.gl_store_book.specs.Stands.{HasKey, NodeStore, Stands, whole, whole_store}
+use Rattle.gl_store_book.proofs.WholeStands.{whole_stands}
 
 -- a store of a node signs with the node's key
 pub has_key : (s : Settings) → IsGroup s → (number : ℕ) → 1 ≤ number → number ≤ s.starting + s.joiners → (node : NodeStore) → IsOfNode s number node → HasKey (keys_of s) node
@@ -30,7 +33,7 @@ has_key s h number low high node is =
     record { key = ap (λ (n : ℕ). private_key (node_seed s n)) one ∙ sym is.key }
 
 -- the store of a node's key is the node's
-joins : (s : Settings) (number : ℕ) (key : NodeKey) (node : NodeStore) → IsKeyOf s number key → node ≡ record { me = sha256 (key_bytes (public_of key.key)); key = key.key; ledger = [] } →
+joins : (s : Settings) (number : ℕ) (key : NodeKey) (node : NodeStore) → IsKeyOf s number key → node ≡ whole_store (sha256 (key_bytes (public_of key.key))) key.key [] →
     IsOfNode s number node
 joins s number key node keyed is = record {
   named = ap (λ (n : NodeStore). n.me) is ∙ ap (λ (k : PrivateKey). sha256 (key_bytes (public_of k))) keyed.key;
@@ -50,7 +53,7 @@ at_end P first (m ∷ ks) k each last (suc i) n is =
 
 -- one more joins
 pub one_joined : (s : Settings) (books new : List NodeStore) (key : NodeKey) (node : NodeStore) → HaveOpened s 0 books → IsKeyOf s (length books + 1) key →
-    node ≡ record { me = sha256 (key_bytes (public_of key.key)); key = key.key; ledger = [] } → new ≡ books ++ node ∷ [] → HaveOpened s 0 new
+    node ≡ whole_store (sha256 (key_bytes (public_of key.key))) key.key [] → new ≡ books ++ node ∷ [] → HaveOpened s 0 new
 one_joined s books new key node opened keyed is grown =
     subst (HaveOpened s 0) (sym grown) (λ i other at.
     subst (λ (n : ℕ). IsAt n other) (let none : 0 + i ≡ i = omega arith in none)
@@ -58,12 +61,12 @@ one_joined s books new key node opened keyed is grown =
     (subst (λ (n : ℕ). IsAt n node) (let none : length books ≡ 0 + length books = omega arith in none) last) i other at))
   where
     IsAt : ℕ → NodeStore → Type 0
-    IsAt n o = IsOfNode s (suc n) o × (o.ledger ≡ opened_at s 0 (suc n))
+    IsAt n o = IsOfNode s (suc n) o × (o.ledger ≡ whole_ledger (opened_at s 0 (suc n)))
 
     last : IsAt (length books) node
     last = (
       subst (λ (n : ℕ). IsOfNode s n node) (let next : length books + 1 ≡ suc (length books) = omega arith in next) (joins s (length books + 1) key node keyed is),
-      ap (λ (n : NodeStore). n.ledger) is ∙ ap (λ (t : Bool). if t then (start_of s).opening else []) (sym (let r : nat_le (suc (length books)) 0 ≡ false = grind (arith, nat_tests) in r)),
+      ap (λ (n : NodeStore). n.ledger) is ∙ ap (λ (t : Bool). whole_ledger (if t then (start_of s).opening else [])) (sym (let r : nat_le (suc (length books)) 0 ≡ false = grind (arith, nat_tests) in r)),
     )
 
 -- ---- the opening
@@ -97,14 +100,14 @@ opened_one s count some =
     ap (λ (t : Bool). if t then (start_of s).opening else []) (let r : nat_le 1 count ≡ true = grind (arith, nat_tests, some) in r)
 
 -- one more has opened
-pub one_opened : (s : Settings) (count : ℕ) (books : List NodeStore) (node : NodeStore) → HaveOpened s count books → IsOfNode s (suc count) node → node.ledger ≡ (start_of s).opening →
+pub one_opened : (s : Settings) (count : ℕ) (books : List NodeStore) (node : NodeStore) → HaveOpened s count books → IsOfNode s (suc count) node → node.ledger ≡ whole_ledger (start_of s).opening →
     HaveOpened s (suc count) (slice_set books count node)
 one_opened s count books node opened is held i other at =
     let r = go 0 count books (λ j o here. subst (λ (n : ℕ). IsAt count n o) (let none : j ≡ 0 + j = omega arith in none) (opened j o here)) (let none : 0 + count ≡ count = omega arith in none) i other at in
     subst (λ (n : ℕ). IsAt (suc count) n other) (let none : 0 + i ≡ i = omega arith in none) r
   where
     IsAt : ℕ → ℕ → NodeStore → Type 0
-    IsAt k n o = IsOfNode s (suc n) o × (o.ledger ≡ opened_at s k (suc n))
+    IsAt k n o = IsOfNode s (suc n) o × (o.ledger ≡ whole_ledger (opened_at s k (suc n)))
 
     go : (first place : ℕ) (rest : List NodeStore) → ((j : ℕ) (o : NodeStore) → slice_get rest j ≡ Some o → IsAt count (first + j) o) →
         first + place ≡ count → (j : ℕ) (o : NodeStore) → slice_get (slice_set rest place node) j ≡ Some o → IsAt (suc count) (first + j) o
@@ -113,13 +116,13 @@ one_opened s count books node opened is held i other at =
         let same : node ≡ o = cc in
         let place : first + 0 ≡ count = sum in
         subst (λ (x : NodeStore). IsAt (suc count) (first + 0) x) same
-        (subst (λ (n : ℕ). IsOfNode s (suc n) node) (sym place) is, held ∙ now_opened s count (first + 0) place)
+        (subst (λ (n : ℕ). IsOfNode s (suc n) node) (sym place) is, held ∙ ap whole_ledger (now_opened s count (first + 0) place))
     go first zero (b ∷ rest) each sum (suc j) o here =
         let r = each (suc j) o here in
-        (r.0, r.1 ∙ same_opened s count (first + suc j) (λ e. omega (arith, e, sum)))
+        (r.0, r.1 ∙ ap whole_ledger (same_opened s count (first + suc j) (λ e. omega (arith, e, sum))))
     go first (suc place) (b ∷ rest) each sum zero o here =
         let r = each zero o here in
-        (r.0, r.1 ∙ same_opened s count (first + 0) (λ e. omega (arith, e, sum)))
+        (r.0, r.1 ∙ ap whole_ledger (same_opened s count (first + 0) (λ e. omega (arith, e, sum))))
     go first (suc place) (b ∷ rest) each sum (suc j) o here =
         subst (λ (n : ℕ). IsAt (suc count) n o) (let next : suc first + j ≡ first + suc j = omega arith in next)
         (go (suc first) place rest (λ k p there. subst (λ (n : ℕ). IsAt count n p) (let next : first + suc k ≡ suc first + k = omega arith in next) (each (suc k) p there))
@@ -130,10 +133,10 @@ stand_at_start s h books whole_length opened = record {
   count = whole_length;
   stand = λ i node at.
       let low : i < s.starting + s.joiners = omega (arith, slice_get_within books i node at, whole_length) in
-      let is = opened i node at in record {
-        keys = keys_of s;
-        has = has_key s h (suc i) (omega arith) (omega (arith, low)) node is.0;
-        book = refl;
-        holding = ap (λ (x : NodeId). whole x (opened_at s s.starting (suc i))) (sym is.0.named) ∙ ap (whole node.me) (sym is.1);
-      };
+      let is = opened i node at in
+      let ledger = opened_at s s.starting (suc i) in
+      let has = has_key s h (suc i) (omega arith) (omega (arith, low)) node is.0 in
+      subst (λ (x : NodeId). Stands node (ledger_book service_layers (keys_of s)) (whole x ledger)) is.0.named
+      (subst (λ (l : BasedLedger). Stands (record { me = node.me; key = node.key; ledger = l }) (ledger_book service_layers (keys_of s)) (whole node.me ledger)) (sym is.1)
+      (whole_stands (keys_of s) node.me node.key ledger has.key));
 }

@@ -5,6 +5,7 @@ use Rattle.gl_world.specs.declared.settings.Settings.{Settings}
 use Rattle.gl_world.specs.Founding.{id_of}
 use Rattle.gl_world.specs.Keys.{private_key, node_seed}
 use Rattle.gl_world.specs.World.{start_of}
+use Rattle.gl_store_book.specs.BasedLedgers.{whole_ledger}
 use Rattle.gl_store_book.specs.Stands.{NodeStore}
 
 -- It is the store of the node with a number.
@@ -21,4 +22,4 @@ opened_at s count number = if nat_le number count then (start_of s).opening else
 abbrev pub HaveOpened : Settings → ℕ → List NodeStore → Type 0
 HaveOpened s count books =
     (i : ℕ) (node : NodeStore) → slice_get books i ≡ Some node →
-    IsOfNode s (suc i) node × (node.ledger ≡ opened_at s count (suc i))
+    IsOfNode s (suc i) node × (node.ledger ≡ whole_ledger (opened_at s count (suc i)))

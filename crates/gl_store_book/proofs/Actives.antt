@@ -1,8 +1,7 @@
 -- The configurations of a ledger give the active ones at each commit, also at one beyond its end.
 use Rattle.std.proofs.Common.{◌≡◌, ⊎_elim, ℕ, zero, suc, ◌+◌, ◌-◌, ◌≤◌, ◌<◌, List, [], ◌∷◌, ◌++◌, length, take, take_all, nat_le, nat_lt, Option, None, Some, if◌then◌else◌, refl, sym, ap, ap₂, ◌∙◌, arith}
 use Rattle.std.specs.Option.{option_to_list}
-use Rattle.std.proofs.lemmas.Bool.{cases_lt, le-ltb, le-leb, lt-ltb}
-use Rattle.std.proofs.lemmas.List.{map-append}
+use Rattle.std.proofs.lemmas.Bool.{cases_lt, le-ltb, le-leb}
 use Rattle.std.proofs.lemmas.List.Elements.{filter-append}
 use Rattle.gl_rules.specs.Identity.{NodeId}
 use Rattle.gl_rules.specs.Book.{Book}
@@ -52,31 +51,6 @@ module _ {E Q G R A F : Type 0} (book : Book E Q G R A F) (log : List E) where
   sets_beyond commit zero low = refl
   sets_beyond commit (suc k) low =
       ap (λ t. if t then configurations_above book log commit k ++ option_to_list (book.configuration (take (suc k) log)) else []) (le-ltb commit (suc k) low)
-
-  one_later : (k n : ℕ) (o : Option (List NodeId)) → n < k → above n (at_seqno k o) ≡ at_seqno k o
-  one_later k n None high = refl
-  one_later k n (Some nodes) high = rw (lt-ltb n k high) refl
-
-  sets_at : (k : ℕ) (o : Option (List NodeId)) → sets_of (at_seqno k o) ≡ option_to_list o
-  sets_at k None = refl
-  sets_at k (Some nodes) = refl
-
-  -- those above a commit, up to any seqno
-  pub above_upto : (commit k : ℕ) → sets_of (above commit (configurations_upto book log k)) ≡ configurations_above book log commit k
-  unfolding configurations_upto configurations_above
-  above_upto commit zero = refl
-  above_upto commit (suc k) =
-      let o : Option (List NodeId) = book.configuration (take (suc k) log) in
-      ⊎_elim
-      (λ (late : commit < suc k).
-      ap sets_of (filter-append (λ (c : Configuration). nat_lt commit c.seqno) (configurations_upto book log k) (at_seqno (suc k) o))
-      ∙ map-append (λ (c : Configuration). c.nodes) (above commit (configurations_upto book log k)) (above commit (at_seqno (suc k) o))
-      ∙ ap₂ (λ (us vs : List (List NodeId)). us ++ vs) (above_upto commit k) (ap sets_of (one_later (suc k) commit o late) ∙ sets_at (suc k) o)
-      ∙ sym (ap (λ t. if t then configurations_above book log commit k ++ option_to_list o else []) (lt-ltb commit (suc k) late)))
-      (λ (early : suc k ≤ commit).
-      ap sets_of (none_above (suc k) commit early)
-      ∙ sym (ap (λ t. if t then configurations_above book log commit k ++ option_to_list o else []) (le-ltb commit (suc k) early)))
-      (cases_lt commit (suc k))
 
   twice : (o p : Option (List NodeId)) → or_else o (or_else o p) ≡ or_else o p
   twice None p = refl

@@ -1,49 +1,35 @@
 -- Entries that are appended one after another, each tried.
-use Rattle.std.proofs.Common.{◌≡◌, ℕ, zero, suc, ◌<◌, ◌≤◌, List, [], ◌∷◌, ◌++◌, length, take, Option, None, Ok, Err, Bool, if◌then◌else◌, refl, ap, ◌∙◌, arith}
-use Rattle.std.proofs.lemmas.Bool.{lt-ltb}
+use Rattle.std.proofs.Common.{◌≡◌, ℕ, zero, suc, ◌-◌, ◌≤◌, List, [], ◌∷◌, ◌++◌, length, take, Option, Some, None, Ok, Err, refl, ap, ap₂, ◌∙◌, arith}
 use Rattle.gl_base.specs.Answers.{Fails}
-use Rattle.gl_base.specs.TxId.{last_seqno}
 use Rattle.gl_base.specs.declared.or_no_memory.OrNoMemory.{OrNoMemory}
 use Rattle.gl_base.specs.declared.or_no_memory.OrNoMemory.TheVariants.{NoMemory, Fault}
 use Rattle.gl_base.proofs.Lists.{take-push}
-use Rattle.gl_rules.specs.Identity.{NodeId}
-use Rattle.gl_rules.specs.Replication as rules
-use Rattle.gl_rules.specs.Replication.{checked_append}
 use Rattle.gl_entry.specs.declared.entry.Entry.{Entry}
-use Rattle.gl_ledger.specs.NodeKeys.{NodeKeys, service_layers}
-use Rattle.gl_ledger.specs.LedgerBook.{ServiceBook, by_rule, ledger_book}
-use Rattle.gl_ledger.specs.Broken.{broken}
+use Rattle.gl_ledger.specs.LedgerBook.{by_rule}
 use Rattle.gl_ledger.specs.declared.breach.Broken.{Broken}
 use Rattle.gl_ledger.specs.declared.response.Rejection.{Rejection}
-use Rattle.gl_ledger.specs.declared.refusal.Refusal.TheVariants as refusals
-use Rattle.gl_ledger.specs.Makers.{by_store, unless_empty, signed_entry, signing_result}
-use Rattle.gl_store_book.specs.Taken.{RefusesFor}
+use Rattle.gl_ledger.specs.declared.response.Rejection.TheVariants.{ByRule}
+use Rattle.gl_store_book.specs.BasedLedgers.{BasedLedger, base_of, broken_after, len_of, with_entries}
+use Rattle.gl_store_book.specs.Taken.{RefusesFor, appended, unless_breaks}
 
-module _ (keys : NodeKeys) where
-  abbrev book : ServiceBook
-  book = ledger_book service_layers keys
+-- one that breaks no rule is appended
+pub appended_next : (l : BasedLedger) (e : Entry) (es : List Entry) → broken_after l e ≡ None → appended l (e ∷ es) ≡ appended (with_entries l (l.entries ++ e ∷ [])) es
+unfolding appended
+appended_next l e es h = ap (λ (o : Option Broken). unless_breaks o (appended (with_entries l (l.entries ++ e ∷ [])) es)) h
 
-  -- one that breaks no rule is appended
-  pub appended_next : (log : List Entry) (e : Entry) (es : List Entry) → broken service_layers log e ≡ None → checked_append book 0 log (e ∷ es) ≡ checked_append book 0 (log ++ e ∷ []) es
-  unfolding checked_append
-  appended_next log e es h = ap (λ (o : Option Broken). rules.unless_broken book (by_rule o) (checked_append book 0 (log ++ e ∷ []) es)) h
+pub appended_none : (l : BasedLedger) → appended l [] ≡ Ok l
+unfolding appended
+appended_none l = refl
 
-  pub appended_none : (log : List Entry) → checked_append book 0 log [] ≡ Ok log
-  unfolding checked_append
-  appended_none log = refl
-
-  -- one that breaks a rule is refused for it
-  pub refused_next : (log : List Entry) (e : Entry) (es : List Entry) (r : OrNoMemory Rejection) → RefusesFor (broken service_layers log e) r → Fails r (checked_append book 0 log (e ∷ es))
-  unfolding checked_append
-  refused_next log e es NoMemory h = tt
-  refused_next log e es (Fault why) h = ap (λ (o : Option Rejection). rules.unless_broken book o (checked_append book 0 (log ++ e ∷ []) es)) h
-
-  -- a signature after an entry, where a seqno is left
-  pub signing_made : (x : NodeId) (leaf : ℕ) (ledger : List Entry) (view commit : ℕ) → 0 < length ledger → length ledger < last_seqno →
-      unless_empty ledger (signing_result keys x leaf ledger view commit) ≡ Ok (signed_entry keys x leaf ledger view commit)
-  signing_made x leaf [] view commit some left = absurd (omega (arith, some))
-  signing_made x leaf (e ∷ es) view commit some left =
-      ap (λ (b : Bool). by_store (if b then Ok (signed_entry keys x leaf (e ∷ es) view commit) else Err refusals.SeqnoLimit)) (lt-ltb (length (e ∷ es)) last_seqno left)
+-- one that breaks a rule is refused for it
+pub refused_next : (l : BasedLedger) (e : Entry) (es : List Entry) (r : OrNoMemory Rejection) → RefusesFor (broken_after l e) r → Fails r (appended l (e ∷ es))
+unfolding appended
+refused_next l e es NoMemory h = tt
+refused_next l e es (Fault why) h = go (broken_after l e) h
+  where
+    go : (o : Option Broken) → by_rule o ≡ Some why → unless_breaks o (appended (with_entries l (l.entries ++ e ∷ [])) es) ≡ Err why
+    go None is = absurd (cc)
+    go (Some b) is = let k : ByRule b ≡ why = cc in ap Err k
 
 -- what stood in front still does
 few : {A : Type 0} (n : ℕ) (xs : List A) → length (take n xs) ≤ length xs
@@ -56,3 +42,10 @@ prefix_kept old now e prefix =
     let low = few (length old) now in
     let same : length (take (length old) now) ≡ length old = ap (λ (es : List Entry). length es) prefix in
     take-push now e (length old) (omega (arith, low, same)) ∙ prefix
+
+-- all that stood in front is the ledger as it was
+pub cut_back : (old now cut : BasedLedger) → now.snapshot ≡ old.snapshot → take (length old.entries) now.entries ≡ old.entries → cut ≡ with_entries now (take (len_of old - base_of now) now.entries) → cut ≡ old
+cut_back old now cut same prefix is =
+    let base : base_of now ≡ base_of old = ap (λ (s : Option (List ℕ)). base_of (record { snapshot = s; entries = old.entries })) same in
+    let all : len_of old - base_of now ≡ length old.entries = omega (arith, base) in
+    is ∙ ap₂ (λ (s : Option (List ℕ)) (es : List Entry). record { snapshot = s; entries = es }) same (ap (λ (n : ℕ). take n now.entries) all ∙ prefix)

@@ -13,13 +13,15 @@ use Rattle.gl_entry.specs.declared.entry.Entry.{Entry}
 use Rattle.gl_entry.specs.declared.fault.EntryFault.{EntryFault}
 use Rattle.gl_entry.proofs.EntryLaws.{entry_at-reads, length-frame_bytes}
 use Rattle.gl_base.proofs.Lists.{slice_get-of_take}
-use Rattle.gl_ledger.specs.Audit.{audited}
+use Rattle.gl_ledger.specs.Audit.{audited, audited_over}
 use Rattle.gl_ledger.specs.Broken.{broken}
 use Rattle.gl_ledger.specs.NodeKeys.{service_layers}
 use Rattle.gl_ledger.specs.declared.breach.Broken.{Broken}
-use Rattle.gl_ledger.proofs.Auditing.{audited_none}
+use Rattle.gl_ledger.proofs.EachPassing.{each_over}
+use Rattle.gl_ledger.proofs.Passing.{passing_over}
 use Rattle.gl_ledger.proofs.Valid.{valid_sound}
 use Rattle.gl_node.specs.Frames.{EachGoesOn}
+use Rattle.gl_store_book.specs.BasedLedgers.{body_of}
 use Rattle.gl_store_book.specs.Frames.{whole_entry, entry_of_frame, ledger_of_frames, is_unbroken, frame_goes_on, goes_on_ledger, frames_of}
 
 -- ---- one frame
@@ -61,6 +63,10 @@ entry_of_frame-frame_bytes e is =
 abbrev pub AllFit : List Entry → Type 0
 AllFit ledger = (i : ℕ) (e : Entry) → slice_get ledger i ≡ Some e → is_entry e ≡ true
 
+-- so it is with those of a valid ledger, and of one of none
+pub valid_fit : (ledger : List Entry) → audited service_layers ledger ≡ None → AllFit ledger
+valid_fit ledger valid = (valid_sound service_layers ledger valid).in_order.fits
+
 pub none_fit : (ledger : List Entry) → ledger ≡ [] → AllFit ledger
 none_fit [] is i e at = absurd (cc)
 none_fit (d ∷ ledger) is i e at = absurd (cc)
@@ -76,15 +82,15 @@ unfolding ledger_of_frames
 none_yet (Ok ledger) o none is = ap (λ (x : Option (List Entry)). ledger_of_frames (frames_of x)) none ∙ ap (λ (l : List Entry). Some l) (sym is)
 none_yet (Err e) o none is = tt
 
--- whether a frame goes on those of a ledger
-pub goes_on-ledger : (log : List (List ℕ)) (ledger : List Entry) (frame : List ℕ) (o : Option Entry) → log ≡ map frame_bytes ledger → AllFit ledger → entry_of_frame frame ≡ o
-    → frame_goes_on log frame ≡ is_unbroken (Some ledger) o
-goes_on-ledger log ledger frame o same fits is = rw (same, ledger_of_frames-map ledger fits, is) refl
+-- whether a frame goes on those of entries
+pub goes_on-ledger : (snapshot : Option (List ℕ)) (log : List (List ℕ)) (ledger : List Entry) (frame : List ℕ) (o : Option Entry) → log ≡ map frame_bytes ledger → AllFit ledger → entry_of_frame frame ≡ o
+    → frame_goes_on snapshot log frame ≡ is_unbroken snapshot (Some ledger) o
+goes_on-ledger snapshot log ledger frame o same fits is = rw (same, ledger_of_frames-map ledger fits, is) refl
 
-pub no_frame : (log : List (List ℕ)) (frame : List ℕ) → entry_of_frame frame ≡ None → frame_goes_on log frame ≡ false
+pub no_frame : (log : List (List ℕ)) (frame : List ℕ) → entry_of_frame frame ≡ None → frame_goes_on None log frame ≡ false
 no_frame log frame none = go (ledger_of_frames log)
   where
-    go : (o : Option (List Entry)) → is_unbroken o (entry_of_frame frame) ≡ false
+    go : (o : Option (List Entry)) → is_unbroken None o (entry_of_frame frame) ≡ false
     go None = refl
     go (Some ledger) = rw none refl
 
@@ -104,30 +110,38 @@ pub record IsPushed (log : List (List ℕ)) (ledger : List Entry) (frame : List 
   pub is : read ≡ Some e
 
 pub pushed : (log : List (List ℕ)) (ledger : List Entry) (frame : List ℕ) (read : Option Entry) (e : Entry) (new : List Entry) → IsPushed log ledger frame read e
-    → broken service_layers ledger e ≡ None → new ≡ ledger ++ e ∷ [] → (frame_goes_on log frame ≡ true) × (map frame_bytes new ≡ log ++ frame ∷ [])
+    → broken service_layers ledger e ≡ None → new ≡ ledger ++ e ∷ [] → (frame_goes_on None log frame ≡ true) × (map frame_bytes new ≡ log ++ frame ∷ [])
 pushed log ledger frame read e new p none grown = (
-  goes_on-ledger log ledger frame (Some e) p.same p.fits (sym p.value ∙ p.is) ∙ ap (λ (o : Option Broken). is_none o) none,
+  goes_on-ledger None log ledger frame (Some e) p.same p.fits (sym p.value ∙ p.is) ∙ ap (λ (o : Option Broken). is_none o) none,
   ap (map frame_bytes) grown ∙ frames_push ledger e frame (encoded_some read e frame p.is p.encoded) ∙ ap (λ (l : List (List ℕ)). l ++ frame ∷ []) (sym p.same),
 )
 
 pub not_pushed : (log : List (List ℕ)) (ledger : List Entry) (frame : List ℕ) (read : Option Entry) (e : Entry) (b : Broken) → IsPushed log ledger frame read e
-    → broken service_layers ledger e ≡ Some b → frame_goes_on log frame ≡ false
+    → broken service_layers ledger e ≡ Some b → frame_goes_on None log frame ≡ false
 not_pushed log ledger frame read e b p some =
-    goes_on-ledger log ledger frame (Some e) p.same p.fits (sym p.value ∙ p.is) ∙ ap (λ (o : Option Broken). is_none o) some
+    goes_on-ledger None log ledger frame (Some e) p.same p.fits (sym p.value ∙ p.is) ∙ ap (λ (o : Option Broken). is_none o) some
 
 pub frames_take : (n : ℕ) (old : Option (List Entry)) (ledger new : List Entry) → old ≡ Some ledger → new ≡ take n ledger → map frame_bytes new ≡ take n (frames_of old)
 frames_take n old ledger new is cut = ap (map frame_bytes) cut ∙ sym (take-map frame_bytes n ledger) ∙ ap (λ (o : Option (List Entry)). take n (frames_of o)) (sym is)
 
--- the frame of each entry of a valid ledger goes on those before it
-pub follow_each : (ledger : List Entry) → audited service_layers ledger ≡ None → EachGoesOn goes_on_ledger None (map frame_bytes ledger)
-follow_each ledger valid i frame at =
-    let there = entry_there (slice_get ledger i) refl (sym (slice_get-map frame_bytes ledger i) ∙ at) in
-    let sound = valid_sound service_layers ledger valid in
-    goes_on-ledger (take i (map frame_bytes ledger)) (take i ledger) frame (Some there.0) (take-map frame_bytes i ledger)
-    (λ j e is. let r = slice_get-of_take i ledger j e is in sound.in_order.fits j e r.1)
-    (ap entry_of_frame (sym there.2) ∙ entry_of_frame-frame_bytes there.0 (sound.in_order.fits i there.0 there.1))
-    ∙ ap (λ (o : Option Broken). is_none o) (audited_none service_layers ledger valid i there.0 there.1)
+-- ---- entries behind the body of a snapshot
+
+-- each fits its format, where it breaks no rule
+pub fit_behind : (snapshot : Option (List ℕ)) (es : List Entry) → audited_over service_layers (body_of snapshot) es ≡ None → AllFit es
+fit_behind snapshot es valid i e at =
+    let body = body_of snapshot in
+    (passing_over service_layers body (take i es) e (each_over service_layers body es valid i e at)).fits
+
+-- the frame of each entry that breaks no rule goes on those before it
+pub follow_each : (snapshot : Option (List ℕ)) (es : List Entry) → audited_over service_layers (body_of snapshot) es ≡ None → EachGoesOn goes_on_ledger snapshot (map frame_bytes es)
+follow_each snapshot es valid i frame at =
+    let there = entry_there (slice_get es i) refl (sym (slice_get-map frame_bytes es i) ∙ at) in
+    let fits = fit_behind snapshot es valid in
+    goes_on-ledger snapshot (take i (map frame_bytes es)) (take i es) frame (Some there.0) (take-map frame_bytes i es)
+    (λ j e is. let r = slice_get-of_take i es j e is in fits j e r.1)
+    (ap entry_of_frame (sym there.2) ∙ entry_of_frame-frame_bytes there.0 (fits i there.0 there.1))
+    ∙ ap (λ (o : Option Broken). is_none o) (each_over service_layers (body_of snapshot) es valid i there.0 there.1)
   where
-    entry_there : (o : Option Entry) → slice_get ledger i ≡ o → option_map frame_bytes o ≡ Some frame → (e : Entry) × (slice_get ledger i ≡ Some e) × (frame_bytes e ≡ frame)
+    entry_there : (o : Option Entry) → slice_get es i ≡ o → option_map frame_bytes o ≡ Some frame → (e : Entry) × (slice_get es i ≡ Some e) × (frame_bytes e ≡ frame)
     entry_there None is none = absurd (cc)
     entry_there (Some e) is some = let k : frame_bytes e ≡ frame = cc in (e, is, k)

@@ -1,5 +1,5 @@
 -- The configurations behind a base and the nodes that are recorded, with one more entry.
-use Rattle.std.proofs.Common.{◌≡◌, ⊎_elim, ℕ, zero, suc, ◌+◌, ◌-◌, ◌≤◌, ◌<◌, List, [], ◌∷◌, ◌++◌, length, map, take, Option, Some, None, Bool, true, false, nat_le, cond, if◌then◌else◌, refl, sym, ap, ap₂, subst, ◌∙◌, arith, nat_eq, true≢false, slice_get, length-append}
+use Rattle.std.proofs.Common.{◌≡◌, ⊎_elim, ℕ, zero, suc, ◌+◌, ◌-◌, ◌≤◌, ◌<◌, List, [], ◌∷◌, ◌++◌, length, Option, Some, None, Bool, true, false, nat_le, cond, if◌then◌else◌, refl, sym, ap, ap₂, ◌∙◌, arith, nat_eq, true≢false, slice_get, length-append}
 use Rattle.std.specs.Cmp.Lexicographic.{bytes_decides, pointwise}
 use Rattle.std.proofs.lemmas.Bool.{and_from, and_parts, cases_lt, le-leb, lt-leb}
 use Rattle.std.proofs.lemmas.List.{append-nil}
@@ -37,14 +37,14 @@ changed before now other = go (same_nodes before now) refl
     go true is = absurd (other (same_nodes_are before now is))
     go false is = refl
 
-stayed : (before now : List NodeId) → changed_set before now ≡ None → before ≡ now
+pub stayed : (before now : List NodeId) → changed_set before now ≡ None → before ≡ now
 stayed before now none = go (same_nodes before now) refl none
   where
     go : (b : Bool) → same_nodes before now ≡ b → (if b then None else Some now) ≡ None → before ≡ now
     go true is none = same_nodes_are before now is
     go false is none = absurd (cc)
 
-came : (before now set : List NodeId) → changed_set before now ≡ Some set → set ≡ now
+pub came : (before now set : List NodeId) → changed_set before now ≡ Some set → set ≡ now
 came before now set some = go (same_nodes before now) some
   where
     go : (b : Bool) → (if b then None else Some now) ≡ Some set → set ≡ now
@@ -169,6 +169,19 @@ none_recorded = refl
 none_configured : configurations_behind 0 ungoverned 0 ≡ []
 unfolding configurations_behind
 none_configured = refl
+
+-- behind a base above 0 there is the one in force there
+first_configured : (base : ℕ) (g : Governed) → 0 < base → g.requests ≡ [] → record { seqno = base; nodes = nodes.trusted (history_of g) } ∷ [] ≡ configurations_behind base g 0
+unfolding configurations_behind
+first_configured zero g above none = absurd (omega (arith, above))
+first_configured (suc b) g above none =
+    let all : up_to (suc b) g.requests ≡ g.requests = ap (up_to (suc b)) none ∙ sym none in
+    ap (λ (set : List NodeId). record { seqno = suc b; nodes = set } ∷ []) (sym (trusted_all (suc b) g all))
+
+pub configured_at_base : (base : ℕ) (g : Governed) (before cs : List Configuration) (set : List NodeId) → 0 < base → g.requests ≡ [] →
+    cs ≡ before ++ record { seqno = base; nodes = set } ∷ [] → before ≡ [] → set ≡ nodes.trusted (history_of g) → cs ≡ configurations_behind base g 0
+configured_at_base base g before cs set above none more first is =
+    more ∙ ap₂ (λ (us : List Configuration) (ids : List NodeId). us ++ record { seqno = base; nodes = ids } ∷ []) first is ∙ first_configured base g above none
 
 pub listed_none : (lists : NodeLists) → lists.configurations.items ≡ [] → lists.recorded.items ≡ [] → AreListsOf 0 ungoverned 0 lists
 listed_none lists none no_node = record {

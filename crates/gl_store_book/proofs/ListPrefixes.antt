@@ -1,10 +1,12 @@
--- The configurations behind a base: those up to a seqno stand in front, as many as are counted.
-use Rattle.std.proofs.Common.{◌≡◌, ⊎_elim, ℕ, zero, suc, ◌≤◌, ◌<◌, ◌+◌, ◌-◌, nat_le, Bool, List, [], ◌∷◌, ◌++◌, length, take, Option, None, Some, refl, sym, ap, ap₂, ◌∙◌, arith, append_assoc}
-use Rattle.std.specs.List.{filter, count_by}
+-- The configurations behind a base: those up to a seqno stand in front, as many as are counted, and
+-- their seqnos ascend.
+use Rattle.std.proofs.Common.{◌≡◌, ⊎_elim, ℕ, zero, suc, ◌≤◌, ◌<◌, ◌+◌, ◌-◌, nat_le, Bool, List, [], ◌++◌, length, take, get_or, min, Option, None, Some, refl, sym, ap, ap₂, subst, ◌∙◌, arith, append_assoc, get_or-take}
+use Rattle.std.specs.List.{All, AllPairs, filter, count_by}
 use Rattle.std.proofs.Math.Seq.{take-append_seam}
 use Rattle.std.proofs.lemmas.Bool.{cases_lt, le-leb, lt-leb}
-use Rattle.std.proofs.lemmas.List.{append-nil}
-use Rattle.std.proofs.lemmas.List.Elements.{filter-append}
+use Rattle.std.proofs.lemmas.List.{append-nil, length-take}
+use Rattle.std.proofs.lemmas.List.Elements.{All-nil, All-cons, All-append, filter-append}
+use Rattle.std.proofs.lemmas.List.Quantifiers.{all_pairs_push}
 use Rattle.std.proofs.lemmas.List.Sums.{length-filter}
 use Rattle.gl_rules.specs.Identity.{NodeId}
 use Rattle.gl_config.specs.declared.configuration.Configuration.{Configuration}
@@ -17,17 +19,46 @@ pub prefix : {X : Type 0} (p : X → Bool) (xs rest : List X) → xs ≡ filter 
 prefix p xs rest whole =
     ap (λ n. take n xs) (sym (length-filter p xs)) ∙ ap (λ ys. take (length (filter p xs)) ys) whole ∙ take-append_seam (filter p xs) rest
 
-one_kept : (k n : ℕ) (o : Option (List NodeId)) → k ≤ n → upto n (at_seqno k o) ≡ at_seqno k o
+pub one_kept : (k n : ℕ) (o : Option (List NodeId)) → k ≤ n → upto n (at_seqno k o) ≡ at_seqno k o
 one_kept k n None low = refl
 one_kept k n (Some nodes) low = rw (le-leb k n low) refl
 
-one_gone : (k n : ℕ) (o : Option (List NodeId)) → n < k → upto n (at_seqno k o) ≡ []
+pub one_gone : (k n : ℕ) (o : Option (List NodeId)) → n < k → upto n (at_seqno k o) ≡ []
 one_gone k n None high = refl
 one_gone k n (Some nodes) high = rw (lt-leb k n high) refl
 
 first_kept : (base seqno : ℕ) (set : List NodeId) → base ≤ seqno → upto seqno (configuration_at_base base set) ≡ configuration_at_base base set
 first_kept zero seqno set low = refl
 first_kept (suc n) seqno set low = rw (le-leb (suc n) seqno low) refl
+
+-- ---- ascending seqnos
+
+abbrev IsEarlier : Configuration → Configuration → Type 0
+IsEarlier c d = c.seqno < d.seqno
+
+one_within : (k n : ℕ) (o : Option (List NodeId)) → k ≤ n → All (λ (c : Configuration). c.seqno ≤ n) (at_seqno k o)
+one_within k n None low = All-nil (λ (c : Configuration). c.seqno ≤ n)
+one_within k n (Some nodes) low =
+    All-cons (λ (c : Configuration). c.seqno ≤ n) (record { seqno = k; nodes = nodes }) [] low (All-nil (λ (c : Configuration). c.seqno ≤ n))
+
+first_within : (base n : ℕ) (set : List NodeId) → base ≤ n → All (λ (c : Configuration). c.seqno ≤ n) (configuration_at_base base set)
+first_within zero n set low = All-nil (λ (c : Configuration). c.seqno ≤ n)
+first_within (suc b) n set low =
+    All-cons (λ (c : Configuration). c.seqno ≤ n) (record { seqno = suc b; nodes = set }) [] low (All-nil (λ (c : Configuration). c.seqno ≤ n))
+
+first_ascends : (base : ℕ) (set : List NodeId) → AllPairs IsEarlier (configuration_at_base base set)
+first_ascends zero set = λ i j d low high. absurd (omega arith)
+first_ascends (suc b) set = λ i j d low high. absurd (omega arith)
+
+-- the first ones ascend where all do
+pub ascend_take : (n : ℕ) (cs : List Configuration) → AllPairs IsEarlier cs → AllPairs IsEarlier (take n cs)
+ascend_take n cs up i j d low high =
+    let len : length (take n cs) ≡ min n (length cs) = length-take n cs in
+    let first : get_or (take n cs) i d ≡ get_or cs i d = get_or-take n cs i d (omega (arith, len, low, high)) in
+    let second : get_or (take n cs) j d ≡ get_or cs j d = get_or-take n cs j d (omega (arith, len, high)) in
+    let both : (get_or cs i d).seqno < (get_or cs j d).seqno = up i j d low (omega (arith, len, high)) in
+    subst (λ (c : Configuration). c.seqno < (get_or (take n cs) j d).seqno) (sym first)
+    (subst (λ (c : Configuration). (get_or cs i d).seqno < c.seqno) (sym second) both)
 
 module _ (base : ℕ) (g : Governed) where
   -- the configurations of more entries have those of these in front
@@ -83,3 +114,24 @@ module _ (base : ℕ) (g : Governed) where
       let all = all_kept count seqno past in
       prefix (λ (c : Configuration). nat_le c.seqno seqno) (configurations_behind base g count) [] (sym all ∙ sym (append-nil _)))
       (cases_lt seqno (base + count))
+
+  -- ---- ascending seqnos
+
+  behind_within : (n m : ℕ) → base + n ≤ m → All (λ (c : Configuration). c.seqno ≤ m) (configurations_behind base g n)
+  unfolding configurations_behind
+  behind_within zero m low = first_within base m (trusted_up_to g base) (omega (arith, low))
+  behind_within (suc n) m low =
+      let o : Option (List NodeId) = begun_at base g (base + suc n) in
+      All-append (λ (c : Configuration). c.seqno ≤ m) (configurations_behind base g n) (at_seqno (base + suc n) o)
+      (behind_within n m (omega (arith, low))) (one_within (base + suc n) m o low)
+
+  -- each begins behind those before it
+  pub behind_ascend : (n : ℕ) → AllPairs IsEarlier (configurations_behind base g n)
+  unfolding configurations_behind
+  behind_ascend zero = first_ascends base (trusted_up_to g base)
+  behind_ascend (suc n) = go (begun_at base g (base + suc n)) (behind_ascend n)
+    where
+      go : (o : Option (List NodeId)) → AllPairs IsEarlier (configurations_behind base g n) → AllPairs IsEarlier (configurations_behind base g n ++ at_seqno (base + suc n) o)
+      go None again = subst (AllPairs IsEarlier) (sym (append-nil (configurations_behind base g n))) again
+      go (Some nodes) again = all_pairs_push IsEarlier (configurations_behind base g n) (record { seqno = base + suc n; nodes = nodes }) again
+          (λ i d lt. let below : (get_or (configurations_behind base g n) i d).seqno ≤ base + n = behind_within n (base + n) (omega arith) i d lt in omega (arith, below))

@@ -1,5 +1,5 @@
 -- What a node's file folds into.
-use Rattle.std.proofs.Common.{◌≡◌, ◌≤◌, ◌++◌, ℕ, max, List, [], Ok, Some, refl, ap, sym, ◌∙◌}
+use Rattle.std.proofs.Common.{◌≡◌, ◌≤◌, ◌++◌, ℕ, max, List, [], Ok, None, Some, refl, ap, sym, ◌∙◌}
 use Rattle.gl_rules.specs.Identity.{NodeId}
 use Rattle.gl_rules.specs.World.{Start}
 use Rattle.gl_entry.specs.declared.entry.Entry.{Entry}
@@ -19,16 +19,20 @@ use Rattle.gl_store_book.proofs.ServiceStarts.{start_valid, start_fits}
 pub limited : (file : List ℕ) (old new : Durable) → (old.reserved ≤ leaf_count old → new ≡ old) → opened file ≡ Ok old → opened file ≡ Ok new
 limited file old new same is = is ∙ ap (λ (d : Durable). Ok d) (sym (same (durable_ordered goes_on_ledger (λ body. refl) file old is).within))
 
+-- no file tells of a snapshot
+pub without_snapshot : (file : List ℕ) (d : Durable) → opened file ≡ Ok d → d.snapshot ≡ None
+without_snapshot file d is = (durable_ordered goes_on_ledger (λ body. refl) file d is).snapshot
+
 -- the batch of an opening that was read
 pub read_folds : (bytes : List ℕ) (ledger : List Entry) (first : NodeId) (d : Durable) (t : ViewVote) (entries : List Entry) (s : Start Entry)
-    → start_in bytes ≡ Ok (service_start ledger first) → IsViewVoteOf (service_start ledger first) d t → entries ≡ ledger → d.log ≡ [] → start_in bytes ≡ Ok s
+    → start_in bytes ≡ Ok (service_start ledger first) → IsViewVoteOf (service_start ledger first) d t → entries ≡ ledger → d.snapshot ≡ None → d.log ≡ [] → start_in bytes ≡ Ok s
     → fold_records goes_on_ledger d (view_vote_records t ++ append_records entries) ≡ Some (opened_state s d)
-read_folds bytes ledger first d t entries s here turn is none starts =
+read_folds bytes ledger first d t entries s here turn is alone none starts =
     let o = service_start ledger first in
     let same : service_start ledger first ≡ s = cc in
     let records : view_vote_records t ++ append_records entries ≡ opening_records o d =
     ap (λ (l : List Entry). view_vote_records t ++ append_records l) is
     ∙ ap (λ (l : List RecordValue). l ++ append_records ledger)
     (turn.records ∙ ap (λ (v : ℕ). vote_records d v t.vote) turn.view ∙ ap (vote_records d (max d.view (opening_view o))) turn.vote) in
-    ap (fold_records goes_on_ledger d) records ∙ opening_folds o d (start_valid bytes o here) (start_fits bytes o here) none
+    ap (fold_records goes_on_ledger d) records ∙ opening_folds o d (start_valid bytes o here) (start_fits bytes o here) alone none
     ∙ ap (λ (z : Start Entry). Some (opened_state z d)) same

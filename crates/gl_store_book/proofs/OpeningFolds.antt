@@ -33,24 +33,25 @@ fit_prefix (x ∷ xs) ys fit zero e at = fit zero e at
 fit_prefix (x ∷ xs) ys fit (suc i) e at = fit_prefix xs ys (λ j d is. fit (suc j) d is) i e at
 
 -- the frame of a valid ledger's entry goes on those before it
-pub goes_on_here : (before es : List Entry) (e : Entry) → audited service_layers (before ++ e ∷ es) ≡ None → AllFit (before ++ e ∷ es) → frame_goes_on (map frame_bytes before) (frame_bytes e) ≡ true
+pub goes_on_here : (before es : List Entry) (e : Entry) → audited service_layers (before ++ e ∷ es) ≡ None → AllFit (before ++ e ∷ es) → frame_goes_on None (map frame_bytes before) (frame_bytes e) ≡ true
 goes_on_here before es e valid fit =
     let at = there before es e in
     let none : broken service_layers before e ≡ None = ap (λ (l : List Entry). broken service_layers l e) (sym (prefix before (e ∷ es))) ∙ audited_none service_layers (before ++ e ∷ es) valid (length before) e at in
-    goes_on-ledger (map frame_bytes before) before (frame_bytes e) (Some e) refl (fit_prefix before (e ∷ es) fit) (entry_of_frame-frame_bytes e (fit (length before) e at))
+    goes_on-ledger None (map frame_bytes before) before (frame_bytes e) (Some e) refl (fit_prefix before (e ∷ es) fit) (entry_of_frame-frame_bytes e (fit (length before) e at))
     ∙ ap (λ o. is_none o) none
 
 -- each entry more
-pub appends_fold : (d : Durable) (before es : List Entry) → audited service_layers (before ++ es) ≡ None → AllFit (before ++ es) → d.log ≡ map frame_bytes before
+pub appends_fold : (d : Durable) (before es : List Entry) → audited service_layers (before ++ es) ≡ None → AllFit (before ++ es) → d.snapshot ≡ None → d.log ≡ map frame_bytes before
     → fold_records goes_on_ledger d (append_records es) ≡ Some (record d { log = map frame_bytes (before ++ es) })
-appends_fold d before [] valid fit is = ap (λ (l : List (List ℕ)). Some (record d { log = l })) (is ∙ ap (map frame_bytes) (sym (append-nil before)))
-appends_fold d before (e ∷ es) valid fit is =
+appends_fold d before [] valid fit alone is = ap (λ (l : List (List ℕ)). Some (record d { log = l })) (is ∙ ap (map frame_bytes) (sym (append-nil before)))
+appends_fold d before (e ∷ es) valid fit alone is =
     let next : Durable = record d { log = d.log ++ frame_bytes e ∷ [] } in
     let whole : (before ++ e ∷ []) ++ es ≡ before ++ e ∷ es = append_assoc before (e ∷ []) es in
-    let goes : frame_goes_on d.log (frame_bytes e) ≡ true = ap (λ (l : List (List ℕ)). frame_goes_on l (frame_bytes e)) is ∙ goes_on_here before es e valid fit in
+    let goes : frame_goes_on d.snapshot d.log (frame_bytes e) ≡ true =
+    ap (λ (o : Option (List ℕ)). frame_goes_on o d.log (frame_bytes e)) alone ∙ ap (λ (l : List (List ℕ)). frame_goes_on None l (frame_bytes e)) is ∙ goes_on_here before es e valid fit in
     let grown : next.log ≡ map frame_bytes (before ++ e ∷ []) = ap (λ (l : List (List ℕ)). l ++ frame_bytes e ∷ []) is ∙ sym (map-append frame_bytes before (e ∷ [])) in
     ap (λ (b : Bool). then_some (if b then Some next else None) (λ (s : Durable). fold_records goes_on_ledger s (append_records es))) goes
-    ∙ appends_fold next (before ++ e ∷ []) es (subst (λ (l : List Entry). audited service_layers l ≡ None) (sym whole) valid) (subst AllFit (sym whole) fit) grown
+    ∙ appends_fold next (before ++ e ∷ []) es (subst (λ (l : List Entry). audited service_layers l ≡ None) (sym whole) valid) (subst AllFit (sym whole) fit) alone grown
     ∙ ap (λ (l : List Entry). Some (record d { log = map frame_bytes l })) whole
 
 -- ---- the view and the vote
@@ -89,10 +90,10 @@ vote_folds d view vote rest low = go (d.view == view && is_same_vote d.vote vote
 
 -- ---- the opening
 
-pub opening_folds : (s : Start Entry) (d : Durable) → audited service_layers s.opening ≡ None → AllFit s.opening → d.log ≡ []
+pub opening_folds : (s : Start Entry) (d : Durable) → audited service_layers s.opening ≡ None → AllFit s.opening → d.snapshot ≡ None → d.log ≡ []
     → fold_records goes_on_ledger d (opening_records s d) ≡ Some (opened_state s d)
-opening_folds s d valid fit none =
+opening_folds s d valid fit alone none =
     let view = max d.view (opening_view s) in
     let vote = vote_at_opening s d in
     vote_folds d view vote (append_records s.opening) (omega arith)
-    ∙ appends_fold (with_vote view vote d) [] s.opening valid fit none
+    ∙ appends_fold (with_vote view vote d) [] s.opening valid fit alone none

@@ -1,5 +1,5 @@
 -- A node that stands for one of the rules, over a file that keeps it, serves.
-use Rattle.std.proofs.Common.{◌≡◌, ℕ, ◌≤◌, ◌^◌, List, [], Bool, true, false, IsTrue, Option, None, Some, map, unwrap_or, refl, sym, ap, subst, ◌∙◌, arith}
+use Rattle.std.proofs.Common.{◌≡◌, ℕ, ◌≤◌, ◌^◌, List, [], Bool, true, false, IsTrue, Option, None, Some, drop, map, unwrap_or, refl, sym, ap, subst, ◌∙◌}
 use Rattle.gl_hss.specs.Secrets.{PrivateKey}
 use Rattle.gl_hss.specs.Types.{height}
 use Rattle.gl_rules.specs.Identity.{NodeId}
@@ -14,19 +14,18 @@ use Rattle.gl_journal.specs.Durable.{Durable, leaf_count}
 use Rattle.gl_journal.specs.declared.journal.Journal.{Journal}
 use Rattle.gl_ledger.specs.NodeKeys.{NodeKeys, service_layers}
 use Rattle.gl_ledger.specs.LedgerBook.{ServiceBook, ledger_book}
-use Rattle.gl_replication.specs.Holding.{Holding}
-use Rattle.gl_replication.specs.Stands.{StandsFor}
-use Rattle.gl_node.specs.Kept.{Kept}
-use Rattle.gl_node.specs.Persistence.{HoldsAbove, IsFileOf, IsHeldOf, IsServing}
+use Rattle.gl_replication.specs.Stands.{StandsFor, held_by}
+use Rattle.gl_node.specs.Persistence.{IsFileOf, IsServing}
 use Rattle.gl_store_book.specs.AtOpening.{kept_ledger, restarted_node, vote_at_opening, opened_state, leads_at_opening, node_at_opening}
 use Rattle.gl_store_book.specs.Frames.{goes_on_ledger, ledger_of_frames}
 use Rattle.gl_store_book.specs.NodeFile.{IsOpened, key_of, node_of}
 use Rattle.gl_store_book.specs.Replicas.{NodeCore, StandsForFile}
-use Rattle.gl_store_book.specs.Stands.{NodeStore, Stands, no_snapshot, whole_kept}
+use Rattle.gl_store_book.specs.Stands.{Stands, snapshot_below}
 use Rattle.gl_store_book.specs.ViewVotes.{IsViewVoteOf}
 use Rattle.gl_store_book.specs.declared.node_file.opening_batch.ViewVote.{ViewVote}
 use Rattle.gl_store_book.proofs.FoldedStates.{durable_ordered}
 use Rattle.gl_store_book.proofs.FrameLaws.{AllFit, ledger_of_frames-map}
+use Rattle.gl_store_book.proofs.HeldLedgers.{held_in, holds_above, none_at_start}
 
 abbrev book : NodeKeys → ServiceBook
 book keys = ledger_book service_layers keys
@@ -38,33 +37,29 @@ keys_with-key : (key : PrivateKey) (x : NodeId) → (keys_with key).key_of x ≡
 unfolding keys_with
 keys_with-key key x = refl
 
-abbrev pub held_in : NodeStore → Kept
-held_in s = whole_kept s.ledger
-
-pub holds_whole : (s : NodeStore) → HoldsAbove Stands held_in no_snapshot s
-holds_whole s b h stands =
-    subst (IsHeldOf no_snapshot (held_in s)) (sym stands.holding)
-    (record { base = refl; within = omega arith; entries = refl; snapshot = refl })
-
--- A file with this durable state keeps a node.
+-- A file with this durable state keeps a node, whose ledger is whole.
 pub record Keeps (d : Durable) (n : Node Entry) : Type 0 where
   pub view : n.view ≡ d.view
   pub vote : n.vote ≡ d.vote
+  pub base : n.base ≡ 0
   pub log : map frame_bytes n.log ≡ d.log
   pub reserved : n.reserved ≡ d.reserved
 
 file_of : (c : NodeCore) (b : ServiceBook) (x : NodeId) (n : Node Entry) (d : Durable) → StandsFor Stands c b x n → Keeps d n → d.base ≡ 0 → d.snapshot ≡ None → IsFileOf held_in d c
-file_of c b x n d s k base snapshot = record {
-  view = sym k.view ∙ sym (ap (λ (m : Node Entry). m.view) s.same);
-  vote = sym k.vote ∙ sym (ap (λ (m : Node Entry). m.vote) s.same);
-  base = base;
-  snapshot = snapshot;
-  log = sym k.log ∙ ap (λ (h : Holding Entry). map frame_bytes h.log) s.ledger.holding;
-  reserved = sym k.reserved ∙ sym (ap (λ (m : Node Entry). m.reserved) s.same);
-}
+file_of c b x n d s k base snapshot =
+    let held = holds_above c.book b (held_by x n) s.ledger in
+    let none : (held_in c.book).base ≡ 0 = sym held.base ∙ k.base in
+    record {
+      view = sym k.view ∙ sym (ap (λ (m : Node Entry). m.view) s.same);
+      vote = sym k.vote ∙ sym (ap (λ (m : Node Entry). m.vote) s.same);
+      base = base ∙ sym none;
+      snapshot = snapshot ∙ sym (none_at_start c.book.ledger.snapshot s.ledger.holding.spelled none);
+      log = sym k.log ∙ ap (map frame_bytes) (ap (λ (i : ℕ). drop i n.log) (sym k.base) ∙ held.entries);
+      reserved = sym k.reserved ∙ sym (ap (λ (m : Node Entry). m.reserved) s.same);
+    }
 
 pub serving : {D : Type 0} (honest : Bool) (bytes : D → List ℕ) (past : D → List Step) (journal : Journal D) (d : Durable) (core : NodeCore) (node : ServiceBook → Node Entry)
-    → IsOpened honest bytes past journal d → StandsForFile d core node → ((b : ServiceBook) → Keeps d (node b)) → IsServing Stands held_in no_snapshot goes_on_ledger honest bytes past core journal
+    → IsOpened honest bytes past journal d → StandsForFile d core node → ((b : ServiceBook) → Keeps d (node b)) → IsServing Stands held_in snapshot_below goes_on_ledger honest bytes past core journal
 unfolding keys_with
 serving honest bytes past journal d core node file stands keeps =
     let keys = keys_with (key_of d) in
@@ -72,7 +67,7 @@ serving honest bytes past journal d core node file stands keeps =
     let ordered = λ (h : IsTrue honest). durable_ordered goes_on_ledger (λ body. refl) (bytes journal.gated.disk) d (file.opens h) in
     record {
       some = record { rules = book keys; me = node_of d; node = node (book keys); standing = here };
-      above = holds_whole core.book;
+      above = holds_above core.book;
       file = λ h. record {
         kept = file.kept h;
         state = d;
@@ -89,7 +84,7 @@ ledger_is d ledger is = ap (λ (o : Option (List Entry)). unwrap_or o []) is
 
 pub keeps_restarted : (d : Durable) (ledger : List Entry) → ledger_of_frames d.log ≡ Some ledger → d.log ≡ map frame_bytes ledger → (b : ServiceBook) → Keeps d (restarted_node b d)
 unfolding restart
-keeps_restarted d ledger is frames b = record { view = refl; vote = refl; log = ap (map frame_bytes) (ledger_is d ledger is) ∙ sym frames; reserved = refl }
+keeps_restarted d ledger is frames b = record { view = refl; vote = refl; base = refl; log = ap (map frame_bytes) (ledger_is d ledger is) ∙ sym frames; reserved = refl }
 
 -- What a file keeps of a node, with this view, vote and ledger.
 abbrev pub seat_node : ℕ → Option NodeId → List Entry → ℕ → Node Entry
@@ -120,7 +115,7 @@ stands_opened s d t core me key fits turn within grown named stands =
     (subst (λ (v : Option NodeId). StandsFor Stands core (book keys) me (restart (book keys) (seat_node t.view v s.opening d.reserved)).node) turn.vote (stands keys k w)))
 
 keeps_leading : (b : ServiceBook) (leads : Bool) (d : Durable) (n : Node Entry) → Keeps d n → Keeps d (lead_if b leads n)
-keeps_leading b true d n k = record { view = k.view; vote = k.vote; log = k.log; reserved = k.reserved }
+keeps_leading b true d n k = record { view = k.view; vote = k.vote; base = k.base; log = k.log; reserved = k.reserved }
 keeps_leading b false d n k = k
 
 pub keeps_opened : (s : Start Entry) (d : Durable) → AllFit s.opening → (b : ServiceBook) → Keeps (opened_state s d) (node_at_opening b s d)

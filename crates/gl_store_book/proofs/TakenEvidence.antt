@@ -1,58 +1,54 @@
 -- What a ledger takes for an evidence: with the trial by the rules of the audit, and where that
 -- refuses nothing.
-use Rattle.std.proofs.Common.{◌≡◌, ℕ, ◌<◌, ◌^◌, List, [], ◌∷◌, ◌++◌, length, Option, Some, None, Ok, Err, Bool, true, false, nat_lt, if◌then◌else◌, refl, sym, ap, subst, ◌∙◌}
-use Rattle.gl_base.specs.TxId.{last_seqno}
+use Rattle.std.proofs.Common.{◌≡◌, ℕ, ◌<◌, ◌^◌, List, [], ◌∷◌, ◌++◌, length, Option, None, Ok, Err, Bool, true, false, nat_lt, if◌then◌else◌, refl, sym, ap, ◌∙◌}
 use Rattle.gl_entry.specs.declared.entry.Entry.{Entry}
-use Rattle.gl_snapshot_body.specs.Body.{snapshot_limit}
+use Rattle.gl_snapshot_body.specs.Body as snapshots
+use Rattle.gl_ledger.specs.Ledger.{within_named}
+use Rattle.gl_ledger.specs.Makers.{MayMake, by_store, evidence_entry, evidence_result, within_snapshot}
 use Rattle.gl_ledger.specs.NodeKeys.{service_layers}
-use Rattle.gl_ledger.specs.Past.{is_signed, past_of}
-use Rattle.gl_ledger.specs.Snapshot.{snapshot_bytes}
-use Rattle.gl_ledger.specs.declared.breach.Broken.{Broken}
+use Rattle.gl_ledger.specs.Past.{Past, is_signed, past_of, past_over}
 use Rattle.gl_ledger.specs.declared.refusal.Refusal.TheVariants as refusals
 use Rattle.gl_ledger.specs.declared.response.Rejection.TheVariants.{NotAfterSignature}
-use Rattle.gl_ledger.specs.Broken.{broken}
-use Rattle.gl_ledger.specs.Makers.{MayMake, by_store, unless_broken, guarded, evidence_entry, evidence_result}
 use Rattle.gl_ledger.proofs.EvidenceEntries.{evidence_is}
-use Rattle.gl_store_book.specs.Taken.{IsNoGovernance, evident, TakesEvidence}
+use Rattle.gl_store_book.specs.BasedLedgers as based
+use Rattle.gl_store_book.specs.BasedLedgers.{BasedLedger, body_of, broken_after, with_entries}
+use Rattle.gl_store_book.specs.Taken.{TakesEntry, evident}
 use Rattle.gl_store_book.proofs.AnyKeys.{any_keys}
-use Rattle.gl_store_book.proofs.TakenEntries.{untouched}
+use Rattle.gl_store_book.proofs.TakenEntries.{Each, IsQuietIn, each_ok, itself, made_so, named, never_broken, stored}
+use Rattle.gl_store_book.proofs.WholeBased.{whole_broken}
 
-abbrev pub itself : Entry → Entry
-itself e = e
+evidence_quiet_in : (p : Past) (view : ℕ) → Each (IsQuietIn view) (evidence_result p view)
+evidence_quiet_in p view = go (is_signed p.last)
+  where
+    e : Entry
+    e = evidence_entry p view
 
--- what is taken breaks no rule
-unbroken_so : (o : Option Broken) (made e : Entry) → unless_broken o made ≡ Ok e → o ≡ None
-unbroken_so None made e h = refl
-unbroken_so (Some why) made e h = absurd (cc)
+    size : ℕ
+    size = length (snapshots.body_bytes p.snapshot)
 
-module _ (ledger : List Entry) (view : ℕ) (e : Entry) (made : evidence_result (past_of ledger) view ≡ Ok e) where
-  entry_is : e ≡ evidence_entry (past_of ledger) view
-  entry_is = go (is_signed (past_of ledger).last) (nat_lt snapshot_limit size) (nat_lt (length ledger) last_seqno) made
-    where
-      size : ℕ
-      size = length (snapshot_bytes ledger)
+    small : (b : Bool) → Each (IsQuietIn view) (if b then Err (refusals.TooLarge size) else within_named p.len e)
+    small true = tt
+    small false = named (IsQuietIn view) p.len e (refl, tt)
 
-      wanted : Entry
-      wanted = evidence_entry (past_of ledger) view
+    go : (b : Bool) → Each (IsQuietIn view) (if b then by_store (within_snapshot size (within_named p.len e)) else Err NotAfterSignature)
+    go false = tt
+    go true = stored (IsQuietIn view) (within_snapshot size (within_named p.len e)) (small (nat_lt snapshots.snapshot_limit size))
 
-      go : (a b c : Bool) → (if a then by_store (if b then Err (refusals.TooLarge size) else (if c then Ok wanted else Err refusals.SeqnoLimit)) else Err NotAfterSignature) ≡ Ok e → e ≡ wanted
-      go false b c w = absurd (cc)
-      go true true c w = absurd (cc)
-      go true false false w = absurd (cc)
-      go true false true w = cc
+module _ (l : BasedLedger) (view : ℕ) (e : Entry) (is : evidence_result (based.past_of l) view ≡ Ok e) where
+  pub evidence_quiet : IsQuietIn view e
+  evidence_quiet = each_ok (IsQuietIn view) (evidence_result (based.past_of l) view) e (evidence_quiet_in (based.past_of l) view) is
 
-  pub evidence_quiet : IsNoGovernance e.content
-  evidence_quiet = subst (λ (x : Entry). IsNoGovernance x.content) (sym entry_is) tt
+  -- where entries may be made it breaks no rule
+  pub evidence_unbroken : view < 2 ^ 32 → l.snapshot ≡ None → MayMake l.entries view → broken_after l e ≡ None
+  evidence_unbroken low none may =
+      whole_broken l none e
+      ∙ never_broken itself l.entries e (evidence_result (past_of l.entries) view) (evidence_is service_layers any_keys l.entries view low may)
+      (ap (λ (o : Option (List ℕ)). evidence_result (past_over (body_of o) l.entries) view) (sym none) ∙ is)
 
-  -- where the trial refuses nothing
-  pub evidence_unbroken : view < 2 ^ 32 → MayMake ledger view → broken service_layers ledger e ≡ None
-  evidence_unbroken low may =
-      unbroken_so (broken service_layers ledger e) e e (sym (ap (guarded service_layers itself ledger) made) ∙ evidence_is service_layers any_keys ledger view low may ∙ made)
-
-  pub takes_evidence : (new : List Entry) → broken service_layers ledger e ≡ None → new ≡ ledger ++ e ∷ [] → TakesEvidence (evident ledger view) view ledger new
+  pub takes_evidence : (new : BasedLedger) → broken_after l e ≡ None → new ≡ with_entries l (l.entries ++ e ∷ []) → TakesEntry (evident l view) view l new
   takes_evidence new unbroken entered = record {
     entry = e;
-    made = ap (guarded service_layers itself ledger) made ∙ untouched (broken service_layers ledger e) e unbroken;
-    in_view = ap (λ (x : Entry). x.view) entry_is;
+    made = made_so itself l e (evidence_result (based.past_of l) view) is unbroken;
+    in_view = evidence_quiet.0;
     entered = entered;
   }

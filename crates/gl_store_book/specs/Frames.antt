@@ -7,7 +7,8 @@ use Rattle.gl_entry.specs.declared.entry.Entry.{Entry}
 use Rattle.gl_entry.specs.declared.fault.EntryFault.{EntryFault}
 use Rattle.gl_journal.specs.Durable.{LogRules}
 use Rattle.gl_ledger.specs.NodeKeys.{service_layers}
-use Rattle.gl_ledger.specs.Broken.{broken}
+use Rattle.gl_ledger.specs.Broken.{broken_over}
+use Rattle.gl_store_book.specs.BasedLedgers.{body_of}
 
 abbrev pub whole_entry : ℕ → Result (Entry × ℕ) EntryFault → Option Entry
 whole_entry size (Ok read) = if read.1 == size then Some read.0 else None
@@ -24,20 +25,24 @@ ledger_of_frames (frame ∷ frames) =
     option_and_then (λ e. option_map (λ es. e ∷ es) (ledger_of_frames frames))
     (entry_of_frame frame)
 
-abbrev pub is_unbroken : Option (List Entry) → Option Entry → Bool
-is_unbroken None e = false
-is_unbroken (Some ledger) None = false
-is_unbroken (Some ledger) (Some e) = is_none (broken service_layers ledger e)
+-- The entry breaks no rule of the audit after entries that stand on the body of a snapshot, where
+-- there is one, or else are a whole ledger.
+abbrev pub is_unbroken : Option (List ℕ) → Option (List Entry) → Option Entry → Bool
+is_unbroken snapshot None e = false
+is_unbroken snapshot (Some ledger) None = false
+is_unbroken snapshot (Some ledger) (Some e) =
+    is_none (broken_over service_layers (body_of snapshot) ledger e)
 
 -- A frame goes on those before it where these are the frames of a ledger and it is the frame, all
 -- of it, of an entry that breaks no rule of the audit after that ledger.
-abbrev pub frame_goes_on : List (List ℕ) → List ℕ → Bool
-frame_goes_on log frame = is_unbroken (ledger_of_frames log) (entry_of_frame frame)
+abbrev pub frame_goes_on : Option (List ℕ) → List (List ℕ) → List ℕ → Bool
+frame_goes_on snapshot log frame =
+    is_unbroken snapshot (ledger_of_frames log) (entry_of_frame frame)
 
 -- What the file of a node lets in: no snapshot yet.
 abbrev pub goes_on_ledger : LogRules
 goes_on_ledger = record {
-  appends = λ snapshot log frame. frame_goes_on log frame;
+  appends = frame_goes_on;
   installs = λ body. None;
 }
 

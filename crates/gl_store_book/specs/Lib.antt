@@ -1,3 +1,4 @@
+pub mod BasedLedgers
 pub mod Stands
 pub mod Lists
 pub mod Taken

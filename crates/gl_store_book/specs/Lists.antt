@@ -1,26 +1,19 @@
--- What is kept of the nodes of a ledger beside it, so that no answer needs a scan. It is told by the
--- seqno of the ledger's base, the requests of governance behind that, and how many entries stand
--- behind it.
+-- What is kept of the nodes of a ledger beside it, so that no answer needs a scan. It is told by
+-- the seqno of the ledger's base, the requests of governance behind that, and how many entries
+-- stand behind it.
 use Rattle.std.specs.Prelude.{◌≡◌, ℕ, zero, suc, ◌+◌, ◌-◌, List, [], ◌∷◌, ◌++◌, Option, None, Some, length, map, slice_get}
 use Rattle.gl_rules.specs.Identity.{NodeId}
-use Rattle.gl_config.specs.Active.{at_seqno, configurations_of}
+use Rattle.gl_config.specs.Active.{at_seqno}
 use Rattle.gl_config.specs.declared.configuration.Configuration.{Configuration}
-use Rattle.gl_entry.specs.declared.entry.Entry.{Entry}
 use Rattle.gl_gov_rules.specs.declared.change.RecordedNode.{RecordedNode}
 use Rattle.gl_gov_rules.specs.Governed.{up_to}
 use Rattle.gl_gov_rules.specs.GovernedRows.{IsBelow}
 use Rattle.gl_gov_rules.specs.Nodes.{nodes, trusted}
-use Rattle.gl_audit.specs.Committed.{Held}
 use Rattle.gl_audit.specs.GovState.{Governed, IsGoverned, governed_up_to, history_of}
-use Rattle.gl_ledger.specs.NodeKeys.{NodeKeys, service_layers}
-use Rattle.gl_ledger.specs.LedgerBook.{ledger_book}
-use Rattle.gl_ledger.specs.Recordings.{changed_set, requests_of}
+use Rattle.gl_ledger.specs.Recordings.{changed_set}
+use Rattle.gl_store.specs.Tail.{StandsBehind, Tail}
+use Rattle.gl_store_book.specs.BasedLedgers.{IsEncoded, body_of}
 use Rattle.gl_store_book.specs.declared.node_lists.NodeLists.{NodeLists}
-
--- These are the configurations of a ledger, whatever keys its nodes have.
-abbrev pub AreConfigurationsOf : List Entry → List Configuration → Type 0
-AreConfigurationsOf ledger cs =
-    (keys : NodeKeys) → cs ≡ configurations_of (ledger_book service_layers keys) ledger
 
 abbrev pub nodes_in : Option Configuration → List NodeId
 nodes_in None = []
@@ -74,11 +67,9 @@ pub record AreListsBefore (base count : ℕ) (g : Governed) (lists : NodeLists) 
   pub stand : StandBehind base g (suc count)
   pub listed : AreListsOf base (governed_up_to (base + count) g) count lists
 
--- The requests of governance of a whole ledger.
-abbrev pub whole_governed : List Entry → Governed
-whole_governed ledger = record { base = None; requests = requests_of ledger }
-
--- They are those of a store of which nothing is committed.
-pub record IsListed (store : Held) (lists : NodeLists) : Type 0 where
-  pub listed : AreListsOf 0 (whole_governed store.ledger) (length store.ledger) lists
-  pub uncommitted : store.commit ≡ 0
+-- What a node keeps of a ledger with a base: entries that stand behind the body of its snapshot,
+-- and the configurations and nodes that go with them.
+pub record IsBookLedger (snapshot : Option (List ℕ)) (t : Tail) (lists : NodeLists) : Type 0 where
+  pub spelled : IsEncoded snapshot
+  pub stands : StandsBehind (body_of snapshot) t
+  pub listed : AreListsOf t.base_end.len t.state.gov (length t.entries) lists

@@ -22,7 +22,7 @@ pub(crate) fn is_trusted(past: &History, node: &RecordedNode) -> bool
 
 /// The trusted nodes, in the order in which they were recorded.
 #[tactic(auto, unfolding(gl_gov_rules::specs::Nodes::trusted))]
-fn trusted_nodes(alloc: Global, past: &History) -> Result<Vec<NodeId>, AllocError>
+pub(crate) fn trusted_nodes(alloc: Global, past: &History) -> Result<Vec<NodeId>, AllocError>
     ensures { IfOk result (λ ids. ids.items ≡ trusted past.now) }
 {
     let mut trusted = Vec::new(alloc);

@@ -2,13 +2,12 @@
 
 ghost use Rattle.std.specs.Prelude.{◌≡◌, None, Ok, IsTrue};
 ghost use Rattle.gl_journal.specs.Durable.{Durable as State};
-ghost use Rattle.gl_ledger.specs.Audit.{audited};
-ghost use Rattle.gl_ledger.specs.NodeKeys.{service_layers};
 ghost use Rattle.gl_node.specs.Kept.{kept_after};
 ghost use Rattle.gl_replication.specs.Events.{rule_of};
 ghost use Rattle.gl_replication.specs.Stands.{Reports};
+ghost use Rattle.gl_store_book.specs.BasedLedgers.{IsAudited};
 ghost use Rattle.gl_store_book.specs.NodeFile.{opened};
-ghost use Rattle.gl_store_book.specs.Restarts.{GivesRestart};
+ghost use Rattle.gl_store_book.specs.Restarts.{GivesRestart, GivesRestartAbove, HoldsBase};
 ghost use Rattle.gl_store_book.specs.Stands.{Stands};
 
 use crate::store_book::StoreBook;
@@ -16,16 +15,17 @@ use gl_node::Replica;
 use gl_outside::Disk;
 use gl_replication::Event;
 
-/// A node's ledger breaks no rule of the audit.
+/// No entry of a node above its base breaks a rule of the audit.
 fn is_audited(book: &StoreBook)
-    ensures { audited service_layers book.now.ledger ≡ None }
+    ensures { IsAudited book.now.ledger }
 {
     let _len = book.ledger.len();
 }
 
 /// A stop forgets nothing. What the file of a node holds between events gives, once it is opened
-/// again, the node's restart. And whatever event comes next, what is to be kept of it gives the
-/// restart of the node that its rule makes.
+/// again, the node's restart: no file holds a snapshot yet. And whatever event comes next, what is
+/// to be kept of it gives, above the node's base, the restart of the node that its rule makes; and
+/// the base and the snapshot up to it stay.
 pub fn a_stop_forgets_nothing<D: Disk + Drop>(
     replica: &Replica<D, StoreBook>,
     event: &Event<StoreBook>,
@@ -34,7 +34,10 @@ pub fn a_stop_forgets_nothing<D: Disk + Drop>(
         Reports Stands replica.now.core (λ b x n. (d : State) →
         opened (D.bytes replica.now.disk) ≡ Ok d → GivesRestart b n d) }
     ensures after { Reports Stands replica.now.core (λ b x n. (d : State) →
-        let next = (rule_of event.now b x n).node in GivesRestart b next (kept_after d next)) }
+        let next = (rule_of event.now b x n).node in
+        GivesRestartAbove b next (kept_after d next)) }
+    ensures base { Reports Stands replica.now.core (λ b x n. (d : State) → HoldsBase n d →
+        let next = (rule_of event.now b x n).node in HoldsBase next (kept_after d next)) }
 {
     let _disk = replica.disk();
     is_audited(&replica.core().book);

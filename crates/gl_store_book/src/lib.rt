@@ -1,6 +1,7 @@
 //! The store of a node as the book that the rules of consensus read: its ledger, which takes no
-//! entry that breaks a rule of the audit, and the key that it signs with. It knows nothing of
-//! commit, so each entry can be cut away.
+//! entry that breaks a rule of the audit, and the key that it signs with. A ledger may have a base:
+//! then a snapshot tells what is left of the entries up to it. The store knows nothing of commit,
+//! so each entry above the base can be cut away.
 //!
 //! Begin with `NodeFile`, the file of a node, and `StoreBook`, its store as the book of consensus.
 #![tactic(auto)]
@@ -19,7 +20,9 @@ mod node_lists;
 mod recorded;
 mod refusals;
 mod signature;
+mod snapshots;
 mod store_book;
+mod whole_ledger;
 
 pub use book_ledger::BookLedger;
 pub use laws::a_stop_forgets_nothing;

@@ -1,13 +1,13 @@
 //! The configurations of a ledger and the nodes that it records, as they are kept beside it.
 
-ghost use Rattle.std.specs.Prelude.{◌≡◌, ◌≤◌, ◌+◌, ◌-◌, ℕ, suc, IfOk, OnOk, OnErr};
+ghost use Rattle.std.specs.Prelude.{◌≡◌, ◌≤◌, ◌+◌, ◌-◌, ◌<◌, ℕ, suc, [], take, IfOk, OnOk, OnErr};
 ghost use Rattle.gl_config.specs.Active.{upto};
-ghost use Rattle.gl_audit.specs.GovState.{Governed, governed_up_to, ungoverned};
+ghost use Rattle.gl_audit.specs.GovState.{Governed, IsGoverned, governed_up_to, ungoverned};
 
-use crate::configurations::{copy_configurations, count_upto, push_configuration};
+use crate::configurations::{copy_configurations, count_upto, push_configuration, trusted_nodes};
 use crate::recorded::{self, push_recorded};
 use gl_audit::GovState;
-use gl_config::{Configuration, NodeId};
+use gl_config::{Configuration, NodeId, NodeSet};
 use std::alloc::{AllocError, Global};
 
 /// Two lists, both in the order of the ledger.
@@ -30,9 +30,31 @@ impl NodeLists {
         }
     }
 
+    /// Those of no entries behind a base that is above 0.
+    pub fn at_base(alloc: Global, gov: &GovState, base: u64) -> Result<Self, AllocError>
+        requires above { 0 < base }
+        requires governed { IsGoverned gov.now }
+        requires none { gov.now.requests ≡ [] }
+        ensures { IfOk result (λ lists. AreListsOf base gov.now 0 lists) }
+    {
+        let mut configurations = Vec::new(alloc);
+        let nodes = trusted_nodes(alloc, gov.history())?;
+        configurations.push(Configuration {
+            seqno: base,
+            nodes: NodeSet::new(nodes),
+        })?;
+        let mut recorded = Vec::new(alloc);
+        push_recorded(&mut recorded, gov.history().nodes())?;
+        Ok(NodeLists {
+            configurations,
+            recorded,
+        })
+    }
+
     /// The configurations of the ledger cut to a seqno, which is not below the base.
     pub fn configurations(&self, seqno: u64) -> &[Configuration]
-        ensures { (base count : ℕ) (g : Governed) → AreListsOf base g count self.now →
+        ensures prefix { (n : ℕ) × (result.now ≡ take n self.now.configurations.items) }
+        ensures upto { (base count : ℕ) (g : Governed) → AreListsOf base g count self.now →
             base ≤ seqno → result.now ≡ upto seqno self.now.configurations.items }
     {
         let count = count_upto(&self.configurations, seqno);

@@ -1,6 +1,6 @@
 //! The signatures of a node.
 
-ghost use Rattle.std.specs.Prelude.{◌≡◌, ◌<◌, ◌^◌, ◌++◌, ℕ, Some, Err, length, IfOk, IfSome, IfNone, OnOk};
+ghost use Rattle.std.specs.Prelude.{◌≡◌, ◌<◌, ◌^◌, ◌++◌, ℕ, Some, Ok, Err, IfOk, IfSome, IfNone, OnOk};
 ghost use Rattle.gl_base.specs.TxId.{last_seqno};
 ghost use Rattle.gl_hss.specs.Types.{height};
 ghost use Rattle.gl_hss.specs.Signer.{hss_signature, levels_above};
@@ -47,18 +47,20 @@ fn signature(
 }
 
 impl StoreBook {
-    ghost use Rattle.gl_ledger.specs.Makers.{signed_entry, signing_result, unless_empty};
     ghost use Rattle.gl_ledger.specs.NodeKeys.{NodeKeys};
-    ghost use Rattle.gl_ledger.specs.Recordings.{endorsement_in};
+    ghost use Rattle.gl_ledger.specs.Recordings.{endorsement_found};
+    ghost use Rattle.gl_gov_rules.specs.Nodes.{node};
+    ghost use Rattle.gl_store_book.specs.BasedLedgers.{IsAudited, len_of, past_of};
     ghost use Rattle.gl_store_book.specs.Stands.{HasKey};
+    ghost use Rattle.gl_store_book.specs.Taken.{signed};
 
     /// Why nothing is signed, if so: there is no entry, or no seqno is left.
     pub(crate) fn refusal_to_sign(&self) -> Option<Rejection>
         ensures refused { IfSome result (λ why. (keys : NodeKeys) (leaf view commit : ℕ) →
-            unless_empty self.now.ledger
-            (signing_result keys self.now.me leaf self.now.ledger view commit) ≡ Err why) }
-        ensures some { IfNone result (0 < length self.now.ledger) }
-        ensures left { IfNone result (length self.now.ledger < last_seqno) }
+            signed keys self.now.ledger self.now.me leaf view commit ≡ Err why) }
+        ensures some { IfNone result (0 < len_of self.now.ledger) }
+        ensures left { IfNone result (len_of self.now.ledger < last_seqno) }
+        ensures valid { IsAudited self.now.ledger }
     {
         match self.ledger.len() {
             0 => Some(Rejection::NoEntry),
@@ -70,9 +72,10 @@ impl StoreBook {
     /// The endorsement of the node's key that stands in its row, no bytes where the ledger doesn't
     /// record the node.
     fn endorsement(&self) -> &[u8]
-        ensures { result.now ≡ endorsement_in self.now.ledger self.now.me }
+        ensures { result.now
+            ≡ endorsement_found (node (past_of self.now.ledger).history self.now.me) }
     {
-        match self.ledger.store().gov().history().node(&self.me) {
+        match self.ledger.tail().state().gov.history().node(&self.me) {
             None => &[],
             Some(recorded) => recorded.node.endorsement.as_slice(),
         }
@@ -86,14 +89,15 @@ impl StoreBook {
         commit: u64,
     ) -> Result<Entry, AllocError>
         requires leaf { leaf < 2 ^ height self.now.key.types }
-        requires some { 0 < length self.now.ledger }
-        requires left { length self.now.ledger < last_seqno }
-        ensures { IfOk result (λ entry. (keys : NodeKeys) → HasKey keys self.now →
-            entry ≡ signed_entry keys self.now.me leaf self.now.ledger view commit) }
+        requires some { 0 < len_of self.now.ledger }
+        requires left { len_of self.now.ledger < last_seqno }
+        ensures made { IfOk result (λ entry. (keys : NodeKeys) → HasKey keys self.now →
+            signed keys self.now.ledger self.now.me leaf view commit ≡ Ok entry) }
+        ensures view { IfOk result (λ entry. entry.view ≡ view) }
     {
-        let store = self.ledger.store();
-        let seqno = store.ledger_len() + 1;
-        let root = store.root();
+        let tail = self.ledger.tail();
+        let seqno = tail.ledger_len() + 1;
+        let root = tail.state().root();
         let message = signed_message(&root, view, seqno, commit);
         let signature = signature(&self.key, self.endorsement(), leaf, &message)?;
         Ok(Entry {

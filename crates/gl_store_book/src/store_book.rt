@@ -33,15 +33,13 @@ impl Model for StoreBook {
 impl StoreBook {
     ghost use Rattle.gl_ledger.specs.NodeKeys.{NodeKeys, service_layers};
     ghost use Rattle.gl_ledger.specs.LedgerBook.{ledger_book};
-    ghost use Rattle.gl_store_book.specs.Stands.{Stands};
+    ghost use Rattle.gl_store_book.specs.Stands.{Stands, whole, whole_store};
 
     /// That of a node that joins: it has no entry yet. Fails only where memory runs out.
     pub fn joining(alloc: Global, me: NodeId, key: LmsKey) -> Result<Self, AllocError>
-        ensures holds { IfOk result (λ book.
-            book ≡ record { me = me; key = key; ledger = [] }) }
+        ensures holds { IfOk result (λ book. book ≡ whole_store me key []) }
         ensures stands { IfOk result (λ book. (keys : NodeKeys) → keys.key_of me ≡ key →
-            Stands book (ledger_book service_layers keys)
-            (record { me = me; base = 0; log = [] })) }
+            Stands book (ledger_book service_layers keys) (whole me [])) }
     {
         let ledger = BookLedger::new(alloc)?;
         Ok(StoreBook {

@@ -34,7 +34,7 @@ fn receipt_with(alloc: Global, digits: &[u8]) -> Option<Vec<u8>> {
 }
 
 /// The text of the receipt, with the signature of the seventh entry.
-fn receipt_text(alloc: Global, tail: &LedgerTail) -> Option<Vec<u8>> {
+pub fn receipt_text(alloc: Global, tail: &LedgerTail) -> Option<Vec<u8>> {
     let entry = tail.entry(7)?;
     let Content::Signature(signature) = &entry.content else {
         return None;

@@ -1,5 +1,5 @@
 //! Tests of snapshots: their bodies against what a program in Python says of the same ledger, a
-//! ledger that begins behind one, and files of one that are whole, cut and changed.
+//! ledger and a node that begin behind one, and files of one that are whole, cut and changed.
 #![tactic(auto)]
 
 #[cfg(test)]
@@ -8,6 +8,8 @@ mod bases;
 mod bodies;
 #[cfg(test)]
 mod file;
+#[cfg(test)]
+mod joiner;
 #[cfg(test)]
 mod ledger;
 #[cfg(test)]

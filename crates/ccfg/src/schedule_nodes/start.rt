@@ -5,8 +5,6 @@ ghost use Rattle.std.specs.List.{AllByRecursion, flat_map};
 ghost use Rattle.gl_entry.specs.Entry.{frame_bytes, is_entry};
 ghost use Rattle.gl_journal.specs.Durable.{Durable as State, key_alone, leaf_count};
 ghost use Rattle.gl_journal.specs.Records.{records_bytes};
-ghost use Rattle.gl_ledger.specs.Audit.{audited};
-ghost use Rattle.gl_ledger.specs.NodeKeys.{service_layers};
 ghost use Rattle.gl_replication.specs.Stands.{StandsFor};
 ghost use Rattle.gl_rules.specs.World.{node_at_start};
 ghost use Rattle.gl_world.specs.AtStart.{AreAtStart, held_at_start};
@@ -16,6 +14,7 @@ ghost use Rattle.gl_world.specs.Keyed.{HasKeysOf};
 ghost use Rattle.gl_world.specs.Keys.{private_key, service_seed};
 ghost use Rattle.gl_world.specs.World.{start_of};
 ghost use Rattle.ccfg.specs.FileNodes.{IsMemoryFile, SeenFileNode, StandsOverFile};
+ghost use Rattle.gl_store_book.specs.BasedLedgers.{IsAudited};
 ghost use Rattle.gl_store_book.specs.Stands.{Stands};
 ghost use Rattle.gl_store_book.specs.ViewVotes.{view_vote_records};
 
@@ -97,13 +96,13 @@ fn turn_of(view: u32, vote: &Option<NodeId>) -> ViewVote
     }
 }
 
-/// The entries of a node's ledger, which breaks no rule of the audit.
+/// The entries of a node's ledger above its base, which break no rule of the audit.
 fn entries_of(book: &StoreBook) -> &[Entry]
-    ensures entries { result.now ≡ book.now.ledger }
+    ensures entries { result.now ≡ book.now.ledger.entries }
     ensures fit { AllByRecursion (λ e. is_entry e ≡ true) result.now }
-    ensures valid { audited service_layers book.now.ledger ≡ None }
+    ensures valid { IsAudited book.now.ledger }
 {
-    book.ledger.store().entries()
+    book.ledger.tail().entries()
 }
 
 /// The file keeps the view and the vote of a node, and its ledger. Fails only where memory runs
@@ -114,13 +113,14 @@ fn keep_node(
     core: &Core<StoreBook>,
 ) -> Result<(), AllocError>
     requires open { (state : State) × IsMemoryFile journal.old state }
-    requires few { length core.now.book.ledger ≤ 2 }
+    requires whole { core.now.book.ledger.snapshot ≡ None }
+    requires few { length core.now.book.ledger.entries ≤ 2 }
     ensures { (state : State) → IsMemoryFile journal.old state → state.log ≡ [] →
         state.view ≤ core.now.peer.view → OnOk result (IsMemoryFile journal.new (record state {
           view = core.now.peer.view;
           vote = core.now.peer.vote;
           has_vote_record = true;
-          log = map frame_bytes core.now.book.ledger;
+          log = map frame_bytes core.now.book.ledger.entries;
         })) }
 {
     let turn = turn_of(core.peer.view, &core.peer.vote);

@@ -6,15 +6,15 @@ use gl_node::KeptBook;
 
 impl KeptBook for StoreBook {
     ghost use Rattle.gl_store_book.specs.Frames.{goes_on_ledger};
-    ghost use Rattle.gl_store_book.specs.Stands.{no_snapshot, whole_kept};
+    ghost use Rattle.gl_store_book.specs.Stands.{held_of, snapshot_below};
 
-    ghost held = { λ b. whole_kept b.ledger };
+    ghost held = { λ b. held_of b.ledger };
 
-    ghost snapshot_of = { no_snapshot };
+    ghost snapshot_of = { snapshot_below };
 
     ghost goes_on = { goes_on_ledger };
 
     fn ledger(&self) -> &[Entry] {
-        self.ledger.store().entries()
+        self.ledger.tail().entries()
     }
 }

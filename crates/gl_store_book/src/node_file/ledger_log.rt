@@ -7,7 +7,7 @@ ghost use Rattle.gl_ledger.specs.NodeKeys.{service_layers};
 ghost use Rattle.gl_ledger.specs.declared.breach.Broken.{Broken};
 ghost use Rattle.gl_store_book.specs.Frames.{entry_of_frame, frames_of, goes_on_ledger, ledger_of_frames};
 
-use crate::book_ledger::BookLedger;
+use crate::whole_ledger::WholeLedger;
 use gl_base::OrNoMemory;
 use gl_entry::Entry;
 use gl_journal::{EntryLog, Installed};
@@ -17,7 +17,7 @@ use std::alloc::{AllocError, Global};
 /// no snapshot yet, and no memory before its first entry.
 #[derive(Drop)]
 pub struct LedgerLog {
-    ledger: Option<BookLedger>,
+    ledger: Option<WholeLedger>,
 }
 
 /// The entry whose frame the bytes are, all of them.
@@ -40,7 +40,7 @@ fn entry_of_frame(alloc: Global, frame: &[u8]) -> Result<Option<Entry>, AllocErr
 
 impl LedgerLog {
     /// The ledger.
-    pub(crate) fn into_ledger(self, alloc: Global) -> Result<BookLedger, AllocError>
+    pub(crate) fn into_ledger(self, alloc: Global) -> Result<WholeLedger, AllocError>
         ensures frames { IfOk result (λ ledger. frames_of self.ledger ≡ frames_of (Some ledger)) }
         ensures ledger { IfOk result (λ ledger.
             ledger_of_frames (frames_of self.ledger) ≡ Some ledger) }
@@ -50,13 +50,13 @@ impl LedgerLog {
                 prove!(ledger.len() < 1 << 40);
                 Ok(ledger)
             }
-            None => BookLedger::new(alloc),
+            None => WholeLedger::new(alloc),
         }
     }
 }
 
 /// Adds an entry to a ledger, and answers whether it breaks no rule there.
-fn try_apply(ledger: &mut BookLedger, entry: Entry) -> Result<bool, AllocError>
+fn try_apply(ledger: &mut WholeLedger, entry: Entry) -> Result<bool, AllocError>
     ensures added { result ≡ Ok true → (broken service_layers ledger.old entry ≡ None)
         × (ledger.new ≡ ledger.old ++ entry ∷ []) }
     ensures refused { result ≡ Ok false →
@@ -97,7 +97,7 @@ impl EntryLog for LedgerLog {
                 try_apply(ledger, entry)
             }
             None => {
-                let mut ledger = BookLedger::new(alloc)?;
+                let mut ledger = WholeLedger::new(alloc)?;
                 let added = try_apply(&mut ledger, entry)?;
                 self.ledger = Some(ledger);
                 Ok(added)

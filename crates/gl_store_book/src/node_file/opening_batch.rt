@@ -15,10 +15,10 @@ ghost use Rattle.gl_store_book.specs.NodeFile.{node_of, seen_state};
 ghost use Rattle.gl_store_book.specs.ServiceStart.{service_start};
 ghost use Rattle.gl_store_book.specs.ViewVotes.{IsViewVoteOf, view_vote_records};
 
-use crate::book_ledger::BookLedger;
 use crate::configurations::is_trusted;
 use crate::node_file::ledger_log::LedgerLog;
 use crate::node_file::opening_ledger::OpeningLedger;
+use crate::whole_ledger::WholeLedger;
 use gl_config::NodeId;
 use gl_entry::Entry;
 use gl_gov_rules::{History, RecordedNode};
@@ -57,17 +57,17 @@ fn is_trusted_now(past: &History, node: &NodeId) -> bool
 }
 
 /// Whether a node is one of a ledger's trusted nodes.
-fn is_trusted_in(ledger: &BookLedger, node: &NodeId) -> bool
+fn is_trusted_in(ledger: &WholeLedger, node: &NodeId) -> bool
     ensures { result ≡ member node.now (trusted_nodes ledger.now) }
 {
-    is_trusted_now(ledger.store().gov().history(), node)
+    is_trusted_now(ledger.history(), node)
 }
 
 /// The view in which a ledger opens its service.
-pub(crate) fn opening_view(ledger: &BookLedger) -> u32
+pub(crate) fn opening_view(ledger: &WholeLedger) -> u32
     ensures { result ≡ view_of_last (last_entry ledger.now) }
 {
-    match ledger.store().entries().last() {
+    match ledger.entries().last() {
         None => 0,
         Some(entry) => entry.view,
     }

@@ -8,8 +8,8 @@ ghost use Rattle.gl_ledger.specs.Recordings.{last_entry};
 ghost use Rattle.gl_ledger.specs.Past.{is_unopened};
 ghost use Rattle.gl_store_book.specs.ServiceStart.{IsNoStart, TakesFrame, service_start, start_after, start_in};
 
-use crate::book_ledger::BookLedger;
 use crate::node_file::opening_batch::suffix;
+use crate::whole_ledger::WholeLedger;
 use gl_base::OrNoMemory;
 use gl_config::NodeId;
 use gl_entry::{Content, Entry};
@@ -19,14 +19,14 @@ use std::alloc::Global;
 /// An opening ledger, and the node that signed it.
 #[derive(Drop)]
 pub(crate) struct OpeningLedger {
-    pub(crate) ledger: BookLedger,
+    pub(crate) ledger: WholeLedger,
     pub(crate) first: NodeId,
 }
 
 /// Adds the entry whose frame bytes begin with, and reports how many bytes the frame has.
 fn take_frame(
     alloc: Global,
-    ledger: &mut BookLedger,
+    ledger: &mut WholeLedger,
     bytes: &[u8],
 ) -> Result<usize, OrNoMemory<NotOpening>>
     requires some { 0 < length bytes.now }
@@ -50,18 +50,18 @@ fn take_frame(
 
 /// The ledger whose frames the bytes are, one after the other, and whether a service begins with
 /// the entry before its last.
-fn read_ledger(alloc: Global, bytes: &[u8]) -> Result<(BookLedger, bool), OrNoMemory<NotOpening>>
+fn read_ledger(alloc: Global, bytes: &[u8]) -> Result<(WholeLedger, bool), OrNoMemory<NotOpening>>
     ensures start { IfOk result (λ read. start_in bytes.now ≡ start_after read.0 []) }
     ensures frames { IfOk result (λ read. bytes.now ≡ flat_map frame_bytes read.0) }
     ensures begun { IfOk result (λ read.
         read.1 ≡ is_unopened (last_entry (take (length read.0 - 1) read.0))) }
     ensures refused { IfErr result (IsNoStart (start_in bytes.now)) }
 {
-    let mut ledger = BookLedger::new(alloc)?;
+    let mut ledger = WholeLedger::new(alloc)?;
     let mut rest = bytes;
     let mut begun = false;
     while !rest.is_empty() {
-        begun = ledger.store().is_unopened();
+        begun = ledger.is_unopened();
         let len = take_frame(alloc, &mut ledger, rest)?;
         rest = suffix(rest, len);
     }
@@ -69,10 +69,10 @@ fn read_ledger(alloc: Global, bytes: &[u8]) -> Result<(BookLedger, bool), OrNoMe
 }
 
 /// The node that signed the last entry, if it is a signature.
-fn last_signer(ledger: &BookLedger) -> Option<NodeId>
+fn last_signer(ledger: &WholeLedger) -> Option<NodeId>
     ensures { result ≡ signer_of (last_entry ledger.now) }
 {
-    match ledger.store().entries().last() {
+    match ledger.entries().last() {
         None => None,
         Some(entry) => match &entry.content {
             Content::Signature(signature) => Some(signature.node),

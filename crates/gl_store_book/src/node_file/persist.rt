@@ -150,13 +150,7 @@ pub(crate) fn keep_start<D: Disk>(
     };
     let turn = ViewVote::at_opening(state, me, &opening);
     prove!(opening.ledger.len() < 1 << 40);
-    match keep_opening(
-        alloc,
-        journal,
-        &turn,
-        opening.ledger.store().entries(),
-        bytes,
-    ) {
+    match keep_opening(alloc, journal, &turn, opening.ledger.entries(), bytes) {
         Ok(()) => Ok((opening, turn)),
         Err(error) => Err(error),
     }

@@ -24,7 +24,6 @@ ghost use Rattle.gl_store_book.specs.Stands.{Stands};
 ghost use Rattle.gl_store_book.specs.ViewVotes.{IsOfOpening, IsTooLarge, IsViewVoteOf};
 ghost use Rattle.gl_store_book.specs.declared.node_file.fault.OpeningFault.{OpeningFault};
 
-use crate::book_ledger::BookLedger;
 use crate::node_file::NodeFile;
 use crate::node_file::fault::OpeningFault;
 use crate::node_file::ledger_log::LedgerLog;
@@ -32,6 +31,7 @@ use crate::node_file::opening_batch::ViewVote;
 use crate::node_file::opening_ledger::OpeningLedger;
 use crate::node_file::persist::keep_start;
 use crate::store_book::StoreBook;
+use crate::whole_ledger::WholeLedger;
 use gl_base::OrNoMemory;
 use gl_config::NodeId;
 use gl_election::Role;
@@ -55,7 +55,7 @@ fn restarted(
     alloc: Global,
     me: NodeId,
     key: LmsKey,
-    ledger: BookLedger,
+    ledger: WholeLedger,
     seat: Seat,
 ) -> Core<StoreBook>
     ensures { (keys : NodeKeys) → keys.key_of me ≡ key → seat.reserved ≤ 2 ^ height key.types →
@@ -71,7 +71,7 @@ fn restarted(
         alloc,
         me,
         key,
-        ledger,
+        ledger: ledger.into_ledger(),
     };
     Core::reopened(alloc, book, seat.view, seat.vote, u64::from(seat.reserved))
 }

@@ -8,7 +8,7 @@ use Rattle.gl_world.specs.Group.{book_of}
 use Rattle.gl_world.specs.World.{start_of}
 use Rattle.ccfg.specs.FileNodes.{IsFileNode, IsMemoryFile, SeenFileNode, StandsOverFile}
 use Rattle.ccfg.proofs.FileNodes.{file_kept}
-use Rattle.ccfg.proofs.FileStarts.{few_at_start, file_at_start, first_view_at_start, leaf_at_start, serving_at_start, state_at_start, state_with}
+use Rattle.ccfg.proofs.FileStarts.{few_at_start, whole_at_start, file_at_start, first_view_at_start, leaf_at_start, serving_at_start, state_at_start, state_with}
 use Rattle.ccfg.proofs.schedule_nodes.FileNode.begin.Goals as goal
 
 pub overflow_cast-core : goal.overflow_cast-core
@@ -26,6 +26,9 @@ keep_node-requires-clause-open c =
     let one = leaf_at_start c.args.settings.now (id_of c.args.settings.now c.args.number) c.args.core c.requires.core in
     (record alone { reserved = c.args.core.leaves.reserved }, c.in_ok-keep_leaves.ensures alone c.in_ok-journal.ensures (omega arith) (omega (arith, one)))
 
+pub keep_node-requires-clause-whole : goal.keep_node-requires-clause-whole
+keep_node-requires-clause-whole c = whole_at_start c.args.settings.now (id_of c.args.settings.now c.args.number) c.args.core c.requires.core
+
 pub keep_node-requires-clause-few : goal.keep_node-requires-clause-few
 keep_node-requires-clause-few c = few_at_start c.args.settings.now (id_of c.args.settings.now c.args.number) c.args.core c.requires.core
 
@@ -38,7 +41,7 @@ new-requires c =
     let leaves = c.in_ok-keep_leaves.ensures alone c.in_ok-journal.ensures (omega arith) (omega (arith, one)) in
     let kept = c.in_ok-keep_node.ensures (record alone { reserved = c.args.core.leaves.reserved }) leaves refl (first_view_at_start s x c.args.core c.requires.core) in
     let file = subst (λ (seed : List ℕ). IsMemoryFile c.keep_node.new.journal (state_with seed c.args.core)) c.node_seed.ensures kept in
-    serving_at_start s c.requires.group c.args.number c.requires.low c.requires.high c.args.core c.keep_node.new.journal (node_at_start (start_of s) x) c.requires.core file
+    serving_at_start s c.requires.group c.args.number c.requires.low c.requires.high c.args.core c.keep_node.new.journal (node_at_start (start_of s) x) c.requires.core (whole_at_start s x c.args.core c.requires.core) file
 
 pub invariant_of-result : goal.invariant_of-result
 invariant_of-result c =

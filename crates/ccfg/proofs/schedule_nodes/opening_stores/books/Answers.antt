@@ -5,6 +5,7 @@ use Rattle.gl_ledger.specs.Makers.{opening_of}
 use Rattle.gl_world.specs.Founding.{keys_of}
 use Rattle.gl_world.specs.World.{start_of}
 use Rattle.ccfg.specs.OpeningStores.{IsOfNode, HaveOpened}
+use Rattle.gl_store_book.specs.BasedLedgers.{whole_ledger}
 use Rattle.gl_store_book.specs.Stands.{NodeStore}
 use Rattle.ccfg.proofs.Openings.{first_founds, has_key, one_opened, opened_one, stand_at_start}
 use Rattle.ccfg.proofs.schedule_nodes.opening_stores.books.Goals as goal
@@ -32,7 +33,7 @@ loop-i-init c =
     let opened = c.in_ok-open.ensures (keys_of s) (has_key s c.requires.group 1 (omega arith) (omega (arith, c.requires.group.first)) c.index_mut.result.now is) in (
       one_opened s 0 c.in_ok-books.books.items c.open.new.self c.in_ok-books.ensures.joining
           (record { named = ap (λ (n : NodeStore). n.me) opened ∙ is.named; key = ap (λ (n : NodeStore). n.key) opened ∙ is.key })
-          (ap (λ (n : NodeStore). n.ledger) opened ∙ ap₂ (opening_of (keys_of s)) c.in_ok-founding.ensures.genesis is.named),
+          (ap (λ (n : NodeStore). n.ledger) opened ∙ ap whole_ledger (ap₂ (opening_of (keys_of s)) c.in_ok-founding.ensures.genesis is.named)),
       length-set c.in_ok-books.books.items 0 c.open.new.self ∙ c.in_ok-books.ensures.len ∙ c.in_ok-founding.ensures.keys.counted,
       omega arith,
       c.requires.group.first,
@@ -58,7 +59,7 @@ loop-i-preserved c =
       key = ap (λ (n : NodeStore). n.key) view ∙ is.key;
     }) in
     let first = (inv.0 0 c.index.result.now (slice_get_read books _ 0 _ refl some c.index.ensures)).1 in
-    let held : c.in_ok-opened.opened ≡ (start_of s).opening = c.in_ok-opened.ensures ∙ ap (λ (n : NodeStore). n.ledger) c.behind-books.view_is ∙ first ∙ opened_one s i inv.2 in
+    let held : c.in_ok-opened.opened ≡ whole_ledger (start_of s).opening = c.in_ok-opened.ensures ∙ ap (λ (n : NodeStore). n.ledger) c.behind-books.view_is ∙ first ∙ ap whole_ledger (opened_one s i inv.2) in
     let more = subst (λ (m : ℕ). HaveOpened s m (slice_set books i node)) (let next : suc i ≡ i + 1 = omega arith in next) (one_opened s i books node inv.0 of_node held) in (
       subst (λ (n : ℕ). HaveOpened s (i + 1) (slice_set books n node)) (sym same) more,
       length-set books k node ∙ inv.1,

@@ -1,4 +1,4 @@
-use Rattle.std.proofs.Common.{rules, ◌≡◌, ◌++◌, ◌∷◌, ⊎_elim, ℕ, List, length, ap, ◌∙◌, arith}
+use Rattle.std.proofs.Common.{rules, ◌≡◌, ◌++◌, ◌∷◌, ⊎_elim, ℕ, List, Option, length, refl, ap, subst, ◌∙◌, arith}
 use Rattle.gl_entry.specs.declared.entry.Entry.{Entry}
 use Rattle.gl_journal.specs.Durable.{fold_records}
 use Rattle.gl_journal.specs.Records.{Vote}
@@ -6,6 +6,8 @@ use Rattle.gl_journal.specs.declared.fault.JournalFault.TheVariants as disks
 use Rattle.gl_ledger.specs.NodeKeys.{service_layers}
 use Rattle.gl_ledger.proofs.Valid.{valid_sound}
 use Rattle.gl_store_book.specs.AtOpening.{append_records}
+use Rattle.gl_store_book.specs.BasedLedgers.{IsAudited}
+use Rattle.gl_store_book.proofs.FoldedStates.{durable_ordered}
 use Rattle.gl_store_book.specs.Frames.{goes_on_ledger}
 use Rattle.gl_store_book.specs.ViewVotes.{view_vote_records}
 use Rattle.gl_store_book.specs.declared.node_file.fault.OpeningFault.TheVariants as faults
@@ -19,14 +21,14 @@ keep_opening-requires-clause-open c = λ honest. c.requires.«open».1.kept hone
 
 pub keep_opening-requires-clause-few : goal.keep_opening-requires-clause-few
 keep_opening-requires-clause-few c =
-    let all : c.entries_of-entries.result.now ≡ c.args.core.now.book.ledger = c.entries_of-entries.ensures.entries in
+    let all : c.entries_of-entries.result.now ≡ c.args.core.now.book.ledger.entries = c.entries_of-entries.ensures.entries in
     let few = c.requires.few in
     omega (arith, few, ap length all)
 
 pub only_memory-requires : goal.only_memory-requires
 only_memory-requires c = λ fault is.
     let e = as_plain_fault _ _ fault c.in-Err.is is in
-    let all : c.entries_of-entries.result.now ≡ c.args.core.now.book.ledger = c.entries_of-entries.ensures.entries in
+    let all : c.entries_of-entries.result.now ≡ c.args.core.now.book.ledger.entries = c.entries_of-entries.ensures.entries in
     let few = c.requires.few in
     let size = node_size (view_vote_records c.turn_of-turn.result) c.entries_of-entries.result.now (search rules) c.turn_of-turn.ensures.small (omega (arith, few, ap length all)) in
     ⊎_elim
@@ -39,13 +41,14 @@ only_memory-requires c = λ fault is.
 pub returns-in-Ok : goal.returns-in-Ok
 returns-in-Ok c = λ state here none low.
     let core = c.args.core.now in
-    let ledger = core.book.ledger in
+    let ledger = core.book.ledger.entries in
     let all : c.entries_of-entries.result.now ≡ ledger = c.entries_of-entries.ensures.entries in
-    let valid = c.entries_of-entries.ensures.valid in
+    let valid = subst (λ (o : Option (List ℕ)). IsAudited (record { snapshot = o; entries = ledger })) c.requires.whole c.entries_of-entries.ensures.valid in
+    let behind = (durable_ordered goes_on_ledger (λ body. refl) _ state (here.opens refl)).snapshot in
     let folds =
     ap (λ (t : ViewVote). fold_records goes_on_ledger state (view_vote_records t ++ append_records c.entries_of-entries.result.now)) c.turn_of-turn.ensures.turn
     ∙ ap (λ (l : List Entry). fold_records goes_on_ledger state (Vote core.peer.view core.peer.vote ∷ append_records l)) all
-    ∙ node_folds state core.peer.view core.peer.vote ledger valid (valid_sound service_layers ledger valid).in_order.fits none low in
+    ∙ node_folds state core.peer.view core.peer.vote ledger valid (valid_sound service_layers ledger valid).in_order.fits none behind low in
     record {
       kept = λ honest. c.in-Ok.ensures.«open» honest;
       opens = λ honest. c.in-Ok.ensures.kept honest state _ (here.opens honest) folds;

@@ -1,45 +1,50 @@
-use Rattle.std.proofs.Common.{rules, ◌≡◌, ◌<◌, ◌^◌, Option, ap, ap₂, subst, ◌∙◌, arith}
-use Rattle.gl_entry.specs.declared.entry.Entry.{Entry}
-use Rattle.gl_ledger.specs.NodeKeys.{service_layers}
-use Rattle.gl_store_book.specs.Stands.{NodeStore}
-use Rattle.gl_store_book.proofs.AllLedgers.{reports, stands_for_itself}
+use Rattle.std.proofs.Common.{◌≡◌, ◌<◌, ◌^◌, Err, refl, sym, ap, subst, ◌∙◌, arith}
 use Rattle.gl_hss.specs.Types.{height}
 use Rattle.gl_hss.specs.declared.types.Types.{Types}
-use Rattle.gl_ledger.specs.declared.breach.Broken.{Broken}
-use Rattle.gl_base.specs.Answers.{Fails}
-use Rattle.gl_ledger.specs.Broken.{broken}
-use Rattle.gl_ledger.specs.Makers.{signed_entry, signing_result, unless_empty}
-use Rattle.gl_store_book.specs.Taken.{RefusesFor}
-use Rattle.gl_store_book.proofs.TakenEntries.{refused_by_rule}
-use Rattle.gl_store_book.proofs.Appending.{signing_made}
+use Rattle.gl_ledger.specs.declared.response.Rejection.TheVariants.{NoEntry}
+use Rattle.gl_hss.specs.Secrets.{PrivateKey}
+use Rattle.gl_store_book.specs.BasedLedgers.{BasedLedger, IsAudited, broken_after}
+use Rattle.gl_store_book.specs.Stands.{NodeStore}
+use Rattle.gl_store_book.specs.Taken.{signed}
+use Rattle.gl_store_book.proofs.AllLedgers.{book, held, reports, stands_with}
+use Rattle.gl_store_book.proofs.BookTaken.{refuses_sign, refuses_signed, signs}
 use Rattle.gl_store_book.proofs.book.StoreBookBook.sign.Goals as goal
 
-pub prove-unreachable-requires : goal.prove-unreachable-requires
-prove-unreachable-requires c =
-    let low : c.args.leaf < 2 ^ height c.args.self.now.key.types = c.requires.leaf _ _ (stands_for_itself c.args.self.now) in
-    let types : c.types.result ≡ c.args.self.now.key.types = c.types.ensures ∙ ap (λ (n : NodeStore). n.key.types) c.self.view_is in
-    let count : c.leaf_count.result ≡ 2 ^ height c.args.self.now.key.types = c.leaf_count.ensures.value ∙ ap (λ (t : Types). 2 ^ height t) types in
-    let high = c.if-prove.true in
-    omega (arith, low, count, high)
+-- the key has the leaf of whoever asks for a ledger that the store stands for
+pub returns-then-leaf-from-clause-refused : goal.returns-then-leaf-from-clause-refused
+returns-then-leaf-from-clause-refused c =
+    let node = c.args.self.now in
+    reports node (λ b h. b.sign h.me c.args.leaf h.log c.args.view c.args.commit ≡ Err NoEntry) (λ keys has log spelled holds.
+    let low : c.args.leaf < 2 ^ height (keys.key_of node.me).types = c.requires.leaf (book keys) (held node log) (stands_with keys node log has spelled holds) in
+    let key : 2 ^ height (keys.key_of node.me).types ≡ 2 ^ height node.key.types = ap (λ (k : PrivateKey). 2 ^ height k.types) has.key in
+    let types : c.types.result ≡ node.key.types = c.types.ensures ∙ ap (λ (n : NodeStore). n.key.types) c.self.view_is in
+    let count : c.leaf_count.result ≡ 2 ^ height node.key.types = c.leaf_count.ensures.value ∙ ap (λ (t : Types). 2 ^ height t) types in
+    let same = c.from.ensures in
+    let high = c.if-leaf-from.true in
+    absurd (omega (arith, low, key, count, same, high)))
 
-pub overflow_cast-leaf : goal.overflow_cast-leaf
-overflow_cast-leaf c =
-    let most = c.leaf_count.ensures.most in
-    let below = c.if-prove.false in
-    let small : c.args.leaf < 2 ^ 32 = omega (arith, most, below) in
-    search (rules, small)
-
-pub signature_entry-requires-clause-leaf : goal.signature_entry-requires-clause-leaf
-signature_entry-requires-clause-leaf c = c.requires.leaf _ _ (stands_for_itself c.args.self.now)
+pub returns-in-Some-clause-refused : goal.returns-in-Some-clause-refused
+returns-in-Some-clause-refused c =
+    refuses_sign c.args.self.now c.args.self.now.ledger refl c.refusal_to_sign.ensures.valid c.in-Some.why c.args.leaf c.args.view c.args.commit c.requires.commit
+    (λ keys. c.in-Some.ensures.refused keys c.args.leaf c.args.view c.args.commit)
 
 pub returns-in-Err-clause-refused : goal.returns-in-Err-clause-refused
 returns-in-Err-clause-refused c =
+    let l = c.self.inside.ledger in
     let node = c.args.self.now in
-    reports node (λ b h. Fails c.by_rule.result (b.sign h.me c.args.leaf h.log c.args.view c.args.commit)) (λ keys has.
-    let e = signed_entry keys node.me c.args.leaf node.ledger c.args.view c.args.commit in
-    let all : c.self.inside.ledger ≡ node.ledger = ap (λ (n : NodeStore). n.ledger) c.self.view_is in
-    let same : broken service_layers c.self.inside.ledger c.in_ok-entry.entry ≡ broken service_layers node.ledger e = ap₂ (broken service_layers) all (c.in_ok-entry.ensures keys has) in
-    refused_by_rule (λ (x : Entry). x) node.ledger c.by_rule.result e (unless_empty node.ledger (signing_result keys node.me c.args.leaf node.ledger c.args.view c.args.commit))
-    (signing_made keys node.me c.args.leaf node.ledger c.args.view c.args.commit c.in_default.ensures.some c.in_default.ensures.left)
-    (subst (λ (o : Option Broken). RefusesFor o c.by_rule.result) same
-    (c.by_rule.ensures (broken service_layers c.self.inside.ledger c.in_ok-entry.entry) c.in-Err.ensures.refused)))
+    let same : l ≡ node.ledger = ap (λ (n : NodeStore). n.ledger) c.self.view_is in
+    let valid : IsAudited l = subst (λ (x : BasedLedger). IsAudited x) (sym same) c.refusal_to_sign.ensures.valid in
+    refuses_signed node l same valid c.by_rule.result c.args.leaf c.args.view c.args.commit c.in_ok-entry.entry c.requires.commit
+    (λ keys has. ap (λ (x : BasedLedger). signed keys x node.me c.args.leaf c.args.view c.args.commit) same ∙ c.in_ok-entry.ensures.made keys has)
+    (c.by_rule.ensures (broken_after l c.in_ok-entry.entry) c.in-Err.ensures.refused)
+
+pub returns-clause-made : goal.returns-clause-made
+returns-clause-made c =
+    let l = c.self.inside.ledger in
+    let node = c.args.self.now in
+    let same : l ≡ node.ledger = ap (λ (n : NodeStore). n.ledger) c.self.view_is in
+    let valid : IsAudited l = subst (λ (x : BasedLedger). IsAudited x) (sym same) c.refusal_to_sign.ensures.valid in
+    signs node l same valid (record { me = c.self.inside.me; key = c.self.inside.key; ledger = c.apply.new.self }) c.apply.new.self c.args.leaf c.args.view c.args.commit c.in_ok-entry.entry
+    (ap (λ (n : NodeStore). record n { ledger = c.apply.new.self }) c.self.view_is) c.requires.commit
+    (λ keys has. ap (λ (x : BasedLedger). signed keys x node.me c.args.leaf c.args.view c.args.commit) same ∙ c.in_ok-entry.ensures.made keys has)
+    c.in_ok-entry.ensures.view c.in_default-apply.ensures.unbroken c.in_default-apply.ensures.grown

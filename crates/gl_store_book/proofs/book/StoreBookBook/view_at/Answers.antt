@@ -1,23 +1,23 @@
-use Rattle.std.proofs.Common.{◌≡◌, ℕ, List, Option, None, Some, refl, ap, ◌∙◌}
+use Rattle.std.proofs.Common.{◌≡◌, List, ap, ◌∙◌}
+use Rattle.gl_rules.specs.Log.{view_at}
 use Rattle.gl_entry.specs.declared.entry.Entry.{Entry}
-use Rattle.gl_ledger.specs.NodeKeys.{service_layers}
-use Rattle.gl_ledger.specs.LedgerBook.{ledger_book}
-use Rattle.gl_audit.specs.Committed.{Held}
+use Rattle.gl_ledger.specs.Snapshot as snapshots
+use Rattle.gl_store_book.specs.BasedLedgers.{body_of}
 use Rattle.gl_store_book.specs.Stands.{NodeStore}
 use Rattle.gl_store_book.proofs.AllLedgers.{reports}
-use Rattle.std.specs.Option.{unwrap_or}
-use Rattle.gl_rules.specs.Log.{entry_at, view_at, view_of_entry}
-use Rattle.gl_rules.specs.Safety.{view_of}
-use Rattle.gl_ledger.specs.LedgerBook.{ServiceBook}
+use Rattle.gl_store_book.proofs.BookTold.{entries_shown, tail_shown, view_told}
 use Rattle.gl_store_book.proofs.book.StoreBookBook.view_at.Goals as goal
 
-viewed : (b : ServiceBook) (o : Option Entry) → unwrap_or (view_of b o) 0 ≡ view_of_entry b o
-viewed b None = refl
-viewed b (Some e) = refl
-
 pub returns : goal.returns
-returns c = reports c.args.self.now (λ b h. c.unwrap_or.result ≡ view_at b h.log c.args.seqno) (λ keys has.
-    let book = ledger_book service_layers keys in
-    let all : c.store.result.now.ledger ≡ c.args.self.now.ledger = ap (λ (h : Held). h.ledger) c.store.ensures.holds ∙ ap (λ (n : NodeStore). n.ledger) c.self.view_is in
-    c.unwrap_or.ensures ∙ ap (λ (o : Option ℕ). unwrap_or o 0) (c.view_at.ensures service_layers keys)
-    ∙ viewed book (entry_at c.store.result.now.ledger c.args.seqno) ∙ ap (λ (es : List Entry). view_at book es c.args.seqno) all)
+returns c =
+    let node = c.args.self.now in
+    let l = c.self.inside.ledger in
+    let t = c.tail.result.now in
+    let body = body_of node.ledger.snapshot in
+    let same : l ≡ node.ledger = ap (λ (n : NodeStore). n.ledger) c.self.view_is in
+    let shown = tail_shown l node.ledger t same c.tail.ensures.entries c.tail.ensures.stands in
+    let all = entries_shown l node.ledger t same c.tail.ensures.entries c.tail.ensures.stands in
+    reports node (λ b h. c.unwrap_or.result ≡ view_at b h.log c.args.seqno) (λ keys has log spelled holds.
+    c.unwrap_or.ensures
+    ∙ view_told keys body node.ledger.entries log holds c.args.seqno c.view_at.result
+    (λ some. c.view_at.ensures.view body shown some ∙ ap (λ (xs : List Entry). snapshots.view_at body xs c.args.seqno) all) c.view_at.ensures.zero)

@@ -1,12 +1,17 @@
-use Rattle.std.proofs.Common.{List, take, ap, subst, ◌∙◌}
+use Rattle.std.proofs.Common.{◌≤◌, ap, subst, sym, ◌∙◌}
 use Rattle.gl_base.specs.Answers.{Fails}
-use Rattle.gl_rules.specs.Replication.{checked_append}
-use Rattle.gl_entry.specs.declared.entry.Entry.{Entry}
-use Rattle.gl_ledger.specs.NodeKeys.{service_layers}
-use Rattle.gl_ledger.specs.LedgerBook.{ledger_book}
+use Rattle.gl_store_book.specs.BasedLedgers.{BasedLedger, base_of, cut_to}
+use Rattle.gl_store_book.specs.Taken.{appended}
 use Rattle.gl_store_book.proofs.book_ledger.BookLedger.append_to_copy.Goals as goal
 
+pub cut-requires : goal.cut-requires
+cut-requires c = record { from_base = subst (λ (l : BasedLedger). base_of l ≤ c.args.seqno) (sym c.in_ok-copy.ensures) c.requires.from_base }
+
+pub returns-clause-replaced : goal.returns-clause-replaced
+returns-clause-replaced c =
+    ap (λ (l : BasedLedger). appended l c.args.entries.now) (sym (c.cut.ensures ∙ ap (cut_to c.args.seqno) c.in_ok-copy.ensures)) ∙ c.in_default.ensures.appended
+
 pub returns-in-Err-clause-refused : goal.returns-in-Err-clause-refused
-returns-in-Err-clause-refused c = λ keys.
-    subst (λ (es : List Entry). Fails c.in-Err.error (checked_append (ledger_book service_layers keys) 0 es c.args.entries.now))
-    (c.cut.ensures ∙ ap (take c.args.seqno) c.in_ok-copy.ensures) (c.in-Err.ensures.refused keys)
+returns-in-Err-clause-refused c =
+    subst (λ (l : BasedLedger). Fails c.in-Err.error (appended l c.args.entries.now))
+    (c.cut.ensures ∙ ap (cut_to c.args.seqno) c.in_ok-copy.ensures) c.in-Err.ensures.refused

@@ -1,28 +1,23 @@
-use Rattle.std.proofs.Common.{◌≡◌, ◌<◌, List, length, take, sym, ap, subst, ◌∙◌, arith}
+use Rattle.std.proofs.Common.{◌≤◌, ◌<◌, List, length, take, sym, ap, subst, ◌∙◌, arith}
 use Rattle.std.specs.List.{AllPairs}
-use Rattle.gl_config.specs.Active.{configurations_of}
+use Rattle.gl_config.specs.Active.{upto}
 use Rattle.gl_config.specs.declared.configuration.Configuration.{Configuration}
-use Rattle.gl_config.proofs.Ledgers.{configurations_ascend}
-use Rattle.gl_entry.specs.declared.entry.Entry.{Entry}
-use Rattle.gl_ledger.specs.NodeKeys.{service_layers}
-use Rattle.gl_ledger.specs.LedgerBook.{ledger_book}
-use Rattle.gl_store_book.specs.Lists.{AreConfigurationsOf, whole_governed}
-use Rattle.gl_store_book.proofs.AnyKeys.{any_keys}
-use Rattle.gl_store_book.proofs.WholeLists.{configured_upto}
+use Rattle.gl_store_book.proofs.ListPrefixes.{ascend_take, behind_ascend}
+use Rattle.gl_store_book.proofs.TailLists.{base_seen, configured_seen}
 use Rattle.gl_store_book.proofs.book_ledger.BookLedger.configurations.Goals as goal
 
 pub returns-clause-ascending : goal.returns-clause-ascending
 returns-clause-ascending c =
-    let ledger = c.self.inside.store.ledger in
-    let are : AreConfigurationsOf (take c.args.upto ledger) c.configurations.result.now = λ keys.
-    c.configurations.ensures 0 (length ledger) (whole_governed ledger) c.self.invariant.listed (omega arith)
-    ∙ configured_upto ledger c.self.inside.lists c.args.upto c.self.invariant.listed keys in
-    subst (λ (cs : List Configuration). AllPairs (λ (x y : Configuration). x.seqno < y.seqno) cs) (sym (are any_keys))
-    (configurations_ascend (ledger_book service_layers any_keys) (take c.args.upto ledger) (length (take c.args.upto ledger)))
+    let t = c.self.inside.tail in
+    let first = c.configurations.ensures.prefix in
+    let all = behind_ascend t.base_end.len t.state.gov (length t.entries) in
+    subst (λ (cs : List Configuration). AllPairs (λ (x y : Configuration). x.seqno < y.seqno) cs)
+    (ap (take first.0) (sym c.self.invariant.listed.configured) ∙ sym first.1) (ascend_take first.0 _ all)
 
 pub returns-clause-prefix : goal.returns-clause-prefix
-returns-clause-prefix c = λ keys.
-    let ledger = c.self.inside.store.ledger in
-    c.configurations.ensures 0 (length ledger) (whole_governed ledger) c.self.invariant.listed (omega arith)
-    ∙ configured_upto ledger c.self.inside.lists c.args.upto c.self.invariant.listed keys
-    ∙ ap (λ (es : List Entry). configurations_of (ledger_book service_layers keys) (take c.args.upto es)) c.self.view_is
+returns-clause-prefix c = λ low.
+    let t = c.self.inside.tail in
+    let base = base_seen _ t c.self.inside.lists c.args.self.now c.self.invariant c.self.view_is in
+    let from : t.base_end.len ≤ c.args.upto = omega (arith, base, low) in
+    c.configurations.ensures.upto t.base_end.len (length t.entries) t.state.gov c.self.invariant.listed from
+    ∙ ap (upto c.args.upto) (configured_seen _ t c.self.inside.lists c.args.self.now c.self.invariant c.self.view_is)

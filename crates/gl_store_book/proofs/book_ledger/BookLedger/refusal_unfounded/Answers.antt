@@ -1,21 +1,24 @@
-use Rattle.std.proofs.Common.{◌≡◌, List, [], ◌∷◌, length, refl, sym, ap, ◌∙◌, arith}
-use Rattle.gl_entry.specs.declared.entry.Entry.{Entry}
+use Rattle.std.proofs.Common.{◌≡◌, [], sym, ap, ◌∙◌}
+use Rattle.gl_audit.specs.declared.ledger_state.LedgerState.{LedgerState}
 use Rattle.gl_gov_rules.specs.History.{History}
 use Rattle.gl_gov_rules.specs.Changes.{history}
 use Rattle.gl_gov_rules.specs.Refusals.{refusal}
-use Rattle.gl_audit.specs.GovState.{history_of}
-use Rattle.gl_ledger.specs.Recordings.{requests_of}
+use Rattle.gl_store_book.proofs.TakenEntries.{refused_unfounded}
 use Rattle.gl_store_book.proofs.Unfounded.{unfounded}
+use Rattle.gl_store_book.proofs.TailPasts.{history_is}
+use Rattle.gl_store_book.proofs.WholeBased.{no_history, no_past}
 use Rattle.gl_store_book.proofs.book_ledger.BookLedger.refusal_unfounded.Goals as goal
-
-empty : (es : List Entry) → length es ≡ 0 → es ≡ []
-empty [] h = refl
-empty (e ∷ es) h = absurd (omega (arith, h))
 
 pub unreachable-requires : goal.unreachable-requires
 unreachable-requires c =
-    let none : c.args.self.now ≡ [] = empty c.args.self.now c.requires.none in
-    let past : c.history.result.now ≡ history [] =
-    c.history.ensures.history ∙ ap history_of c.gov.ensures.gov ∙ ap (λ (es : List Entry). history (requests_of es)) (c.self.view_is ∙ none) in
+    let l = c.args.self.now in
+    let past : c.history.result.now ≡ history [] = history_is l c.tail.result.now c.tail.ensures.entries c.tail.ensures.stands _ _ (ap (λ (s : LedgerState). s.gov) c.state.ensures.state) c.history.ensures.history ∙ no_history l c.requires.none in
     unfounded 1 c.args.request.now c.requires.founding c.requires.recovery
     (ap (λ (h : History). refusal h 1 c.args.request.now) (sym past) ∙ sym c.in-Ok-None.ensures.refusal ∙ c.in-Ok-None.field-0-is)
+
+pub returns-in-Ok-Some : goal.returns-in-Ok-Some
+returns-in-Ok-Some c =
+    let l = c.args.self.now in
+    let past : c.history.result.now ≡ history [] = history_is l c.tail.result.now c.tail.ensures.entries c.tail.ensures.stands _ _ (ap (λ (s : LedgerState). s.gov) c.state.ensures.state) c.history.ensures.history ∙ no_history l c.requires.none in
+    refused_unfounded l c.args.view c.args.request.now c.in-Ok-Some.why (no_past l c.requires.none) c.requires.fits c.requires.founding c.requires.recovery
+    (ap (λ (h : History). refusal h 1 c.args.request.now) (sym past) ∙ sym c.in-Ok-Some.ensures.refusal ∙ c.in-Ok-Some.field-0-is)

@@ -1,16 +1,16 @@
-use Rattle.std.proofs.Common.{List, All, IsTrue, sym, ap, subst}
-use Rattle.gl_entry.specs.Entry.{is_entry}
-use Rattle.gl_entry.specs.declared.entry.Entry.{Entry}
+use Rattle.std.proofs.Common.{sym, subst}
 use Rattle.gl_answers.specs.Limits.{KeepsLimits}
 use Rattle.gl_answers.proofs.ServiceLimits.{service_limits}
-use Rattle.gl_ledger.specs.LedgerBook.{ServiceBook, ledger_book}
+use Rattle.gl_ledger.specs.LedgerBook.{ServiceBook}
 use Rattle.gl_ledger.specs.NodeKeys.{service_layers}
-use Rattle.gl_replication.specs.Holding.{Holding}
+use Rattle.gl_store_book.specs.BasedLedgers.{IsAudited, body_of}
+use Rattle.gl_store_book.specs.Stands.{NodeStore}
+use Rattle.gl_store_book.proofs.CommittedBooks.{all_true, held_fits}
 use Rattle.gl_store_book.proofs.client_book.StoreBookClientBook.keeps_limits.Goals as goal
 
 pub returns : goal.returns
 returns c = λ b h s.
+    let l = c.args.self.now.ledger in
+    let valid = subst (λ (n : NodeStore). IsAudited n.ledger) c.self.view_is c.len-len.ensures.valid in
     subst (λ (v : ServiceBook). KeepsLimits v h.log) (sym s.book)
-    (subst (λ (l : List Entry). KeepsLimits (ledger_book service_layers s.keys) l) (sym (ap (λ (k : Holding Entry). k.log) s.holding))
-    (service_limits service_layers s.keys c.args.self.now.ledger
-    (subst (λ (l : List Entry). All (λ (e : Entry). IsTrue (is_entry e)) l) c.ledger-entries.ensures.entries c.ledger-entries.ensures.fit)))
+    (service_limits service_layers s.keys h.log (all_true h.log (held_fits (body_of l.snapshot) l.entries h.log s.holding.holds valid)))

@@ -4,7 +4,6 @@ use Rattle.gl_entry.specs.Entry.{frame_bytes}
 use Rattle.gl_entry.specs.declared.entry.Entry.{Entry}
 use Rattle.gl_ledger.specs.Recordings.{last_entry}
 use Rattle.gl_ledger.specs.Past.{is_unopened}
-use Rattle.gl_audit.specs.Committed.{Held}
 use Rattle.gl_store_book.specs.ServiceStart.{start_after}
 use Rattle.gl_store_book.proofs.ServiceStarts.{starts_whole, start_step, frames_grow, before_last}
 use Rattle.gl_store_book.proofs.node_file.opening_ledger.read_ledger.Goals as goal
@@ -31,6 +30,5 @@ loop-begun-preserved c =
       start = i.start ∙ start_step old t.entry c.loop-begun.rest.now rest t.fits frame ∙ ap (λ (l : List Entry). start_after l rest) (sym t.grown);
       frames = frames_grow old new t.entry c.args.bytes.now c.loop-begun.rest.now rest i.frames frame t.grown;
       begun = c.is_unopened-begun.ensures
-          ∙ ap (λ (h : Held). is_unopened (last_entry h.ledger)) c.store.ensures.holds
           ∙ ap (λ (l : List Entry). is_unopened (last_entry l)) (sym (before_last old new t.entry t.grown));
     }

@@ -4,13 +4,17 @@ use Rattle.gl_hss.specs.Secrets.{PrivateKey}
 use Rattle.gl_rules.specs.World.{joiner}
 use Rattle.gl_ledger.specs.LedgerBook.{ledger_book}
 use Rattle.gl_ledger.specs.NodeKeys.{service_layers}
-use Rattle.gl_store_book.specs.Stands.{whole}
+use Rattle.gl_store_book.specs.BasedLedgers.{BasedLedger}
+use Rattle.gl_store_book.specs.Stands.{Stands, whole}
+use Rattle.gl_store_book.proofs.WholeStands.{whole_stands}
 use Rattle.gl_store_book.proofs.node_file.replica.restarted.Goals as goal
 
 pub returns : goal.returns
 returns c = λ keys k within.
     let a = c.args in
-    c.reopened.ensures (ledger_book service_layers keys) (whole a.me a.ledger) (record { keys = keys; has = record { key = k }; book = refl; holding = refl })
+    let b = ledger_book service_layers keys in
+    c.reopened.ensures b (whole a.me a.ledger)
+    (subst (λ (l : BasedLedger). Stands (record { me = a.me; key = a.key; ledger = l }) b (whole a.me a.ledger)) (sym c.into_ledger.ensures.ledger) (whole_stands keys a.me a.key a.ledger k))
     (record joiner { view = a.seat.view; vote = a.seat.vote; log = a.ledger; reserved = a.seat.reserved })
     refl refl refl (sym c.from.ensures)
     (subst (λ (key : PrivateKey). c.from.result ≤ 2 ^ height key.types) (sym k) (subst (λ (n : ℕ). n ≤ 2 ^ height a.key.types) (sym c.from.ensures) within))

@@ -1,10 +1,12 @@
 use Rattle.std.proofs.Common.{◌≡◌, ℕ, List, refl, sym, ap, subst, ◌∙◌}
 use Rattle.sha2.specs.Sha256.{sha256}
+use Rattle.gl_ledger.specs.LedgerBook.{ledger_book}
 use Rattle.gl_ledger.specs.Makers.{opening_of}
 use Rattle.gl_ledger.specs.NodeKeys.{service_layers}
 use Rattle.gl_ledger.specs.OpeningLedger.{Founds}
 use Rattle.gl_store_book.specs.Founding.{id_of_key, key_alone}
-use Rattle.gl_store_book.specs.Stands.{NodeStore, whole}
+use Rattle.gl_store_book.specs.Stands.{NodeStore, Stands, whole, whole_store}
+use Rattle.gl_store_book.proofs.WholeStands.{whole_stands}
 use Rattle.gl_store_book.proofs.store_book.StoreBook.founded.Goals as goal
 
 pub open-requires-clause-empty : goal.open-requires-clause-empty
@@ -27,8 +29,8 @@ returns-clause-holds c =
     let named : c.digest-me.result ≡ id_of_key key = c.digest-me.ensures ∙ ap sha256 c.public.ensures.bytes in
     let is = c.in_ok-book.ensures.holds in
     c.in_ok-open.ensures keys (record { key = sym (ap (λ (n : NodeStore). n.key) is) })
-    ∙ ap (λ (n : NodeStore). record n { ledger = opening_of keys c.args.genesis n.me }) is
-    ∙ ap (λ (x : List ℕ). record { me = x; key = key; ledger = opening_of keys c.args.genesis x }) named
+    ∙ ap (λ (n : NodeStore). whole_store n.me n.key (opening_of keys c.args.genesis n.me)) is
+    ∙ ap (λ (x : List ℕ). whole_store x key (opening_of keys c.args.genesis x)) named
 
 pub returns-clause-stands : goal.returns-clause-stands
 returns-clause-stands c =
@@ -38,10 +40,7 @@ returns-clause-stands c =
     let begun = c.in_ok-book.ensures.holds in
     let is =
     c.in_ok-open.ensures keys (record { key = sym (ap (λ (n : NodeStore). n.key) begun) })
-    ∙ ap (λ (n : NodeStore). record n { ledger = opening_of keys c.args.genesis n.me }) begun
-    ∙ ap (λ (x : List ℕ). record { me = x; key = key; ledger = opening_of keys c.args.genesis x }) named in record {
-      keys = keys;
-      has = record { key = sym (ap (λ (n : NodeStore). n.key) is) };
-      book = refl;
-      holding = ap (λ (n : NodeStore). whole n.me n.ledger) (sym is);
-    }
+    ∙ ap (λ (n : NodeStore). whole_store n.me n.key (opening_of keys c.args.genesis n.me)) begun
+    ∙ ap (λ (x : List ℕ). whole_store x key (opening_of keys c.args.genesis x)) named in
+    subst (λ (n : NodeStore). Stands n (ledger_book service_layers keys) (whole (id_of_key key) (opening_of keys c.args.genesis (id_of_key key)))) (sym is)
+    (whole_stands keys (id_of_key key) key (opening_of keys c.args.genesis (id_of_key key)) refl)

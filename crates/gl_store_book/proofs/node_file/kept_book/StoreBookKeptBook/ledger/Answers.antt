@@ -1,17 +1,18 @@
-use Rattle.std.proofs.Common.{List, None, map, sym, ap, subst, ◌∙◌}
+use Rattle.std.proofs.Common.{List, map, sym, subst, ◌∙◌}
 use Rattle.gl_entry.specs.Entry.{frame_bytes}
 use Rattle.gl_entry.specs.declared.entry.Entry.{Entry}
 use Rattle.gl_node.specs.Frames.{EachGoesOn}
-use Rattle.gl_audit.specs.Committed.{Held}
 use Rattle.gl_store_book.specs.Frames.{goes_on_ledger}
+use Rattle.gl_store_book.specs.Stands.{NodeStore}
 use Rattle.gl_store_book.proofs.FrameLaws.{follow_each}
-use Rattle.gl_store_book.proofs.ServedNodes.{holds_whole}
+use Rattle.gl_store_book.proofs.HeldLedgers.{holds_above}
 use Rattle.gl_store_book.proofs.node_file.kept_book.StoreBookKeptBook.ledger.Goals as goal
 
 pub returns-clause-follow : goal.returns-clause-follow
 returns-clause-follow c =
-    subst (λ (l : List Entry). EachGoesOn goes_on_ledger None (map frame_bytes l)) (sym (c.entries.ensures.entries ∙ ap (λ (h : Held). h.ledger) c.store.ensures.holds))
-    (follow_each c.self.inside.ledger c.store.ensures.valid)
+    let l = c.self.inside.ledger in
+    subst (λ (n : NodeStore). EachGoesOn goes_on_ledger n.ledger.snapshot (map frame_bytes c.entries.result.now)) c.self.view_is
+    (subst (λ (es : List Entry). EachGoesOn goes_on_ledger l.snapshot (map frame_bytes es)) (sym (c.entries.ensures.entries ∙ c.tail.ensures.entries)) (follow_each l.snapshot l.entries c.tail.ensures.valid))
 
 pub returns-clause-above : goal.returns-clause-above
-returns-clause-above c = holds_whole c.args.self.now
+returns-clause-above c = holds_above c.args.self.now

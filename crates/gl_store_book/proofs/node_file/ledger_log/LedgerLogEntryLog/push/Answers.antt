@@ -1,7 +1,7 @@
 use Rattle.std.proofs.Common.{◌≡◌, [], map, ap, sym, ◌∙◌}
 use Rattle.gl_entry.specs.Entry.{frame_bytes}
 use Rattle.gl_store_book.specs.Frames.{frames_of}
-use Rattle.gl_store_book.proofs.FrameLaws.{IsPushed, pushed, not_pushed, none_fit}
+use Rattle.gl_store_book.proofs.FrameLaws.{IsPushed, pushed, not_pushed, none_fit, valid_fit}
 use Rattle.gl_store_book.proofs.node_file.ledger_log.LedgerLogEntryLog.push.Goals as goal
 
 pub returns-in-Some-ledger-clause-added : goal.returns-in-Some-ledger-clause-added
@@ -13,7 +13,7 @@ returns-in-Some-ledger-clause-added c h =
     let e = c.in-Some.entry in
     let there : IsPushed (frames_of old) ledger frame read e = record {
       same = ap frames_of c.in-Some-ledger.is;
-      fits = c.len.ensures.sound.in_order.fits;
+      fits = valid_fit ledger c.len.ensures.valid;
       value = c.in_ok-entry.ensures.value;
       encoded = c.in_ok-entry.ensures.encoded;
       is = c.in-Some.is;
@@ -30,7 +30,7 @@ returns-in-Some-ledger-clause-refused c h =
     let e = c.in-Some.entry in
     let there : IsPushed (frames_of old) ledger frame read e = record {
       same = ap frames_of c.in-Some-ledger.is;
-      fits = c.len.ensures.sound.in_order.fits;
+      fits = valid_fit ledger c.len.ensures.valid;
       value = c.in_ok-entry.ensures.value;
       encoded = c.in_ok-entry.ensures.encoded;
       is = c.in-Some.is;

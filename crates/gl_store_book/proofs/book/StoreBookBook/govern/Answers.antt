@@ -1,0 +1,22 @@
+use Rattle.std.proofs.Common.{ap}
+use Rattle.std.proofs.lemmas.Result.{err_from_is_err_and}
+use Rattle.gl_base.specs.Answers.{Fails}
+use Rattle.gl_ledger.specs.declared.response.Response.TheVariants.{Governed}
+use Rattle.gl_replication.specs.Standing.{At}
+use Rattle.gl_store_book.specs.Stands.{NodeStore, Stands}
+use Rattle.gl_store_book.proofs.BookTaken.{governs, refuses_govern}
+use Rattle.gl_store_book.proofs.book.StoreBookBook.govern.Goals as goal
+
+pub returns-in_err-status-clause-refused : goal.returns-in_err-status-clause-refused
+returns-in_err-status-clause-refused c =
+    let p = err_from_is_err_and c.from_residual.result c.from_residual.ensures.1 in
+    let same = ap (λ (n : NodeStore). n.ledger) c.self.view_is in
+    let refused : At Stands c.args.self.now (λ b h. Fails c.in_err-status.field-0.0 (b.govern h.log c.args.view c.args.request.now)) =
+    refuses_govern c.args.self.now c.self.inside.ledger same c.len.ensures.valid c.in_err-status.field-0.0 c.args.view c.args.request.now c.in_err-status.ensures.refused in
+    rw (p.1, p.2) refused
+
+pub returns-clause-made : goal.returns-clause-made
+returns-clause-made c =
+    let same = ap (λ (n : NodeStore). n.ledger) c.self.view_is in
+    governs c.args.self.now c.self.inside.ledger same c.len.ensures.valid (record { me = c.self.inside.me; key = c.self.inside.key; ledger = c.govern.new.self }) c.govern.new.self
+    c.args.view c.args.request.now (Governed c.in_ok-status.status) (ap (λ (n : NodeStore). record n { ledger = c.govern.new.self }) c.self.view_is) c.in_ok-status.ensures.made

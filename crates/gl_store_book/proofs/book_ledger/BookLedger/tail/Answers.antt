@@ -1,0 +1,12 @@
+use Rattle.std.proofs.Common.{arith}
+use Rattle.gl_store_book.proofs.TailLists.{stands_seen}
+use Rattle.gl_store_book.proofs.book_ledger.BookLedger.tail.Goals as goal
+
+pub prove-unreachable-requires : goal.prove-unreachable-requires
+prove-unreachable-requires c =
+    let low = c.ledger_len.ensures.named in
+    let high = c.if-prove.true in
+    omega (arith, low, high)
+
+pub returns-clause-stands : goal.returns-clause-stands
+returns-clause-stands c = stands_seen _ c.self.inside.tail c.self.inside.lists c.args.self.now c.self.invariant c.self.view_is

@@ -1,5 +1,6 @@
 -- How a node begins, case by case.
-use Rattle.std.proofs.Common.{◌≡◌, ◌≢◌, ◌⊎◌, inl, inr, ℕ, ◌<◌, ◌≤◌, ◌^◌, Bool, true, false, nat_lt, ◌==◌, if◌then◌else◌, List, [], ◌∷◌, Option, None, Some, Result, Ok, Err, IfOk, IsOk, IsTrue, refl, sym, ap, subst, ◌∙◌, arith, ltb-false, ltb-true}
+use Rattle.std.proofs.Common.{◌≡◌, ◌≢◌, ◌⊎◌, inl, inr, ℕ, ◌<◌, ◌≤◌, ◌^◌, Bool, true, false, nat_lt, ◌==◌, if◌then◌else◌, List, [], ◌∷◌, length, Option, None, Some, Result, Ok, Err, IfOk, IsOk, IsTrue, refl, sym, ap, subst, ◌∙◌, arith, ltb-false, ltb-true}
+use Rattle.std.proofs.lemmas.Bool.Decides.{nat_tests}
 use Rattle.gl_entry.specs.declared.entry.Entry.{Entry}
 use Rattle.gl_rules.specs.World.{Start}
 use Rattle.gl_entry.specs.SourceBytes.{OfBytes}
@@ -11,15 +12,17 @@ use Rattle.gl_journal.specs.declared.key.KeyKind.{KeyKind}
 use Rattle.gl_journal.specs.declared.key.KeyKind.TheVariants as kinds
 use Rattle.gl_hss.specs.declared.types.Types.TheVariants as types
 use Rattle.gl_store_book.specs.AtOpening.{opening_size}
-use Rattle.gl_store_book.specs.NodeFile.{opened}
+use Rattle.gl_store_book.specs.NodeFile.{has_ledger, opened}
 use Rattle.gl_store_book.specs.ServiceStart.{start_in}
+use Rattle.gl_store_book.specs.Stands.{HasLedger as IsOfLedger}
 use Rattle.gl_store_book.specs.ViewVotes.{IsOfOpening, IsTooLarge}
 use Rattle.gl_store_book.specs.declared.node_file.fault.OpeningFault.{OpeningFault}
 use Rattle.gl_store_book.specs.declared.node_file.fault.OpeningFault.TheVariants as faults
+use Rattle.gl_store_book.proofs.WholeHeld.{none_base}
 use Rattle.ccfg.specs.NodeCommand.{NeedsNoSource}
 use Rattle.ccfg.specs.Plans.{OpensAsBefore}
 use Rattle.ccfg.specs.SignCommand.{IsForeign}
-use Rattle.ccfg.specs.Nodes.{Beginning, OfOpened, begin_after, begin_with, beginning, beginning_of, has_ledger, opened_by}
+use Rattle.ccfg.specs.Nodes.{Beginning, OfOpened, begin_from, begin_with, beginning, beginning_of, opened_by, reopened}
 
 -- ---- values
 
@@ -48,10 +51,10 @@ by_opened true held printed Q e q = subst Q (sym (e refl)) q
 by_opened false held printed Q e q = (printed, q)
 
 -- the file has a ledger, or the source gave its end
-pub ledger_or_end : {A E : Type 0} (r : Result A E) (d : Durable) (ended : Bool) → (has_ledger d.log ≡ false → IfOk r (λ a. ended ≡ true)) → IfOk r (λ a. (has_ledger d.log ≡ true) ⊎ (ended ≡ true))
-ledger_or_end r d ended given = go (has_ledger d.log) refl
+pub ledger_or_end : {A E : Type 0} (r : Result A E) (d : Durable) (ended : Bool) → (has_ledger d ≡ false → IfOk r (λ a. ended ≡ true)) → IfOk r (λ a. (has_ledger d ≡ true) ⊎ (ended ≡ true))
+ledger_or_end r d ended given = go (has_ledger d) refl
   where
-    go : (b : Bool) → has_ledger d.log ≡ b → IfOk r (λ a. (has_ledger d.log ≡ true) ⊎ (ended ≡ true))
+    go : (b : Bool) → has_ledger d ≡ b → IfOk r (λ a. (has_ledger d ≡ true) ⊎ (ended ≡ true))
     go true e = ok_any r (λ a. inl e)
     go false e = ok_map r (λ a is. inr is) (given e)
 
@@ -64,6 +67,28 @@ ok_both P Q (Err e) p q = tt
 pub of_honest : (honest : Bool) (held : List ℕ) (Q : Result Durable JournalFault → Type 0) → (IsTrue honest → (d : Durable) × (opened held ≡ Ok d) × Q (Ok d)) → (other : Result Durable JournalFault) → Q other → OfOpened honest held Q
 of_honest true held Q h other q = let k = h refl in subst Q (sym k.1) k.2
 of_honest false held Q h other q = (other, q)
+
+-- ---- a ledger, or none yet
+
+-- a file without a snapshot is of a ledger that has no entries up to its base
+pub of_none : IsOfLedger None
+of_none = ([], none_base)
+
+-- what a node begins with, by whether its file has a ledger
+abbrev by_ledger : Durable → List ℕ → Bool → Result Beginning OpeningFault
+by_ledger d given has = if has then Ok (reopened d) else begin_from d given
+
+-- with what the file keeps
+pub begins_again : (d : Durable) (given : List ℕ) → has_ledger d ≡ true → beginning d given ≡ Ok (reopened d)
+begins_again d given has = ap (by_ledger d given) has
+
+is_zero : (n : ℕ) → (n == 0) ≡ true → n ≡ 0
+is_zero n is = grind (arith, nat_tests, is)
+
+-- with nothing
+pub begins_empty : (d : Durable) (given : List ℕ) → has_ledger d ≡ false → (length given == 0) ≡ true → beginning d given ≡ Ok (reopened d)
+begins_empty d [] none empty = ap (by_ledger d []) none
+begins_empty d (byte ∷ given) none empty = absurd (omega (arith, is_zero (length (byte ∷ given)) empty))
 
 -- ---- an opening ledger
 
@@ -83,22 +108,24 @@ too_large d s high = go (nat_lt (opening_size s d) (2 ^ 32)) refl
     go false e = refl
     go true e = absurd (omega (arith, high, ltb-true (opening_size s d) (2 ^ 32) e))
 
-suffix : (d : Durable) (log : List (List ℕ)) (given : List ℕ) (r : Result (Start Entry) ℕ) → has_ledger log ≡ false → given ≢ [] → start_in given ≡ r → begin_after d log given ≡ begin_with d r
-suffix d (frame ∷ frames) given r none some e = absurd cc
-suffix d [] [] r none some e = absurd (some refl)
-suffix d [] (byte ∷ more) r none some e = ap (begin_with d) e
+by_start : (d : Durable) (given : List ℕ) (r : Result (Start Entry) ℕ) → given ≢ [] → start_in given ≡ r → begin_from d given ≡ begin_with d r
+by_start d [] r some e = absurd (some refl)
+by_start d (byte ∷ more) r some e = ap (begin_with d) e
 
-pub begins_with : (d : Durable) (given : List ℕ) (s : Start Entry) → has_ledger d.log ≡ false → given ≢ [] → start_in given ≡ Ok s → opening_size s d < 2 ^ 32 → beginning d given ≡ Ok (opened_by s d)
-begins_with d given s none some e low = suffix d d.log given (Ok s) none some e ∙ fits_one d s low
+begins_from : (d : Durable) (given : List ℕ) (r : Result (Start Entry) ℕ) → has_ledger d ≡ false → given ≢ [] → start_in given ≡ r → beginning d given ≡ begin_with d r
+begins_from d given r none some e = ap (by_ledger d given) none ∙ by_start d given r some e
 
-pub refused_with : (d : Durable) (given : List ℕ) (fault : OpeningFault) → has_ledger d.log ≡ false → given ≢ [] → IsOfOpening fault → fault ≢ faults.Journal DiskFault →
+pub begins_with : (d : Durable) (given : List ℕ) (s : Start Entry) → has_ledger d ≡ false → given ≢ [] → start_in given ≡ Ok s → opening_size s d < 2 ^ 32 → beginning d given ≡ Ok (opened_by s d)
+begins_with d given s none some e low = begins_from d given (Ok s) none some e ∙ fits_one d s low
+
+pub refused_with : (d : Durable) (given : List ℕ) (fault : OpeningFault) → has_ledger d ≡ false → given ≢ [] → IsOfOpening fault → fault ≢ faults.Journal DiskFault →
     ((seqno : ℕ) → fault ≡ faults.NotOpening seqno → start_in given ≡ Err seqno) → ((size : ℕ) → fault ≡ faults.TooLarge size → IsTooLarge (start_in given) d size) → beginning d given ≡ Err fault
 refused_with d given (faults.Journal fault) none some of other not_opening large = absurd (other (ap faults.Journal of))
 refused_with d given (faults.KeyKind want got) none some of other not_opening large = absurd of
-refused_with d given (faults.NotOpening seqno) none some of other not_opening large = suffix d d.log given (Err seqno) none some (not_opening seqno refl)
+refused_with d given (faults.NotOpening seqno) none some of other not_opening large = begins_from d given (Err seqno) none some (not_opening seqno refl)
 refused_with d given (faults.TooLarge size) none some of other not_opening large =
     let h = large size refl in
-    suffix d d.log given (Ok h.0) none some h.1 ∙ too_large d h.0 (subst (λ n. 2 ^ 32 ≤ n) h.2 h.3) ∙ ap (λ n. Err (faults.TooLarge n)) (sym h.2)
+    begins_from d given (Ok h.0) none some h.1 ∙ too_large d h.0 (subst (λ n. 2 ^ 32 ≤ n) h.2 h.3) ∙ ap (λ n. Err (faults.TooLarge n)) (sym h.2)
 
 -- ---- the file
 
@@ -116,10 +143,10 @@ other_kind d given got kind other =
     go kinds.Member n = refl
 
 -- a file of a node that needs no source has a ledger
-pub has_one : (opens : Result Durable JournalFault) (d : Durable) → opens ≡ Ok d → d.key.kind ≡ kinds.Node → NeedsNoSource opens → has_ledger d.log ≡ true
+pub has_one : (opens : Result Durable JournalFault) (d : Durable) → opens ≡ Ok d → d.key.kind ≡ kinds.Node → NeedsNoSource opens → has_ledger d ≡ true
 has_one opens d is kind none = go (subst NeedsNoSource is none)
   where
-    go : (d.key.kind ≢ kinds.Node) ⊎ (has_ledger d.log ≡ true) → has_ledger d.log ≡ true
+    go : (d.key.kind ≢ kinds.Node) ⊎ (has_ledger d ≡ true) → has_ledger d ≡ true
     go (inl other) = absurd (other kind)
     go (inr has) = has
 

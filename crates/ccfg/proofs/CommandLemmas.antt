@@ -165,7 +165,7 @@ module _ {S D L : Type 0} (r : Run S D) (link : LinkRun L) (source : r.source.af
   nothing_does (asks.Node node) =
       let does : NodeDoes node r link endings.Memory = record {
         exact = inl (inl (record { link_same = same; any_moment = λ honest gate. no_moments (IsUnserved (r.disk.bytes r.disk.before) (r.disk.past r.disk.before)) (λ image left. inl (inl left)) }), keeps);
-        any_moment = λ honest gate. no_moments (KeepsNode (r.disk.bytes r.disk.before) (r.disk.past r.disk.before)) (λ image left. inl (inl left));
+        any_moment = λ honest gate of. no_moments (KeepsNode (r.disk.bytes r.disk.before) (r.disk.past r.disk.before)) (λ image left. inl (inl left));
         foreign = λ honest none. same_images;
         foreign_bytes = λ honest none other. ap r.disk.bytes disk;
         unread = λ honest none. source;

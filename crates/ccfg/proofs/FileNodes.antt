@@ -1,5 +1,5 @@
 -- A node of a world over a file in memory: what stays of its file, and that the file never fails.
-use Rattle.std.proofs.Common.{◌≡◌, ◌≢◌, ◌⊎◌, inl, inr, ⊎_elim, ℕ, List, [], map, Ok, Err, Result, IfOk, IfErr, refl, sym, ap, subst, ◌∙◌, arith}
+use Rattle.std.proofs.Common.{◌≡◌, ◌≢◌, ◌⊎◌, inl, inr, ⊎_elim, ℕ, List, [], map, Ok, Err, Result, IfOk, IfErr, take, refl, sym, ap, subst, ◌∙◌, arith}
 use Rattle.gl_base.specs.declared.or_no_memory.OrNoMemory.{OrNoMemory}
 use Rattle.gl_base.specs.declared.or_no_memory.OrNoMemory.TheVariants.{Fault}
 use Rattle.gl_rules.specs.Identity.{NodeId}
@@ -28,19 +28,21 @@ use Rattle.gl_requests.specs.declared.request.GovernanceRequest.{GovernanceReque
 use Rattle.gl_ledger.specs.declared.response.Reads.{Reads}
 use Rattle.gl_node.specs.Answers.{OnRefusal}
 use Rattle.gl_node.specs.Kept.{kept_after}
-use Rattle.gl_node.specs.Persistence.{StandsForSome}
+use Rattle.gl_node.specs.Persistence.{OpensToCore, StandsForSome}
 use Rattle.gl_node.specs.declared.fault.NodeFault.{NodeFault}
 use Rattle.gl_node.specs.declared.fault.NodeFault.TheVariants as node_faults
 use Rattle.gl_rules.specs.Outcome.{Step}
 use Rattle.gl_world.specs.WorldNodes.{KeepsAll, Refuses, Rule, ServiceDone, ServiceRefusal, Stepped, Steps}
 use Rattle.gl_store_book.specs.AtOpening.{restarted_node}
 use Rattle.ccfg.specs.FileNodes.{IsFileIn, IsFileNode, OpensToNode, SeenFileNode, StandsOverFile}
+use Rattle.gl_store_book.specs.Frames.{goes_on_ledger}
 use Rattle.gl_store_book.specs.NodeFile.{node_of, opened}
-use Rattle.gl_store_book.specs.Restarts.{GivesRestart}
-use Rattle.gl_store_book.specs.Replicas.{StandsForFile}
-use Rattle.gl_store_book.specs.Stands.{NodeStore, Stands}
+use Rattle.gl_store_book.specs.Restarts.{GivesRestart, HoldsBase}
+use Rattle.gl_store_book.specs.Replicas.{IsBelow, StandsForFile}
+use Rattle.gl_store_book.specs.Stands.{HasLedger, NodeStore, Stands}
 use Rattle.gl_store_book.specs.declared.node_file.fault.OpeningFault.{OpeningFault}
 use Rattle.gl_store_book.specs.declared.node_file.fault.OpeningFault.TheVariants as openings
+use Rattle.gl_store_book.proofs.HeldLedgers.{held_in}
 use Rattle.gl_store_book.proofs.RestartLaws.{same_ok}
 
 abbrev pub NodeEvent : Type 0
@@ -106,16 +108,24 @@ file_kept bytes d b x is f e other = subst (λ (s : Durable). IsFileIn s b x) (o
 
 -- ---- a restart
 
-pub turned : (old new : SeenFileNode) (d : Durable) → opened old.disk.bytes ≡ Ok d → opened new.disk.bytes ≡ Ok d → StandsForFile d new.core (λ b. restarted_node b d) →
-    Reports Stands old.core (λ b x n. (e : Durable) → opened old.disk.bytes ≡ Ok e → GivesRestart b n e) →
+-- what the file held gives the restart of each node for which the core stood, and its snapshot
+-- stands for the entries of that up to the base
+pub record Restarts (old : SeenFileNode) : Type 0 where
+  pub gives : Reports Stands old.core (λ b x n. (e : Durable) → opened old.disk.bytes ≡ Ok e → GivesRestart b n e)
+  pub holds : Reports Stands old.core (λ b x n. (e : Durable) → opened old.disk.bytes ≡ Ok e → HoldsBase n e)
+  pub below : Reports Stands old.core (λ b x n. (e : Durable) → HoldsBase n e → IsBelow e (take n.base n.log))
+
+turned : (old new : SeenFileNode) (d : Durable) → opened old.disk.bytes ≡ Ok d → opened new.disk.bytes ≡ Ok d → StandsForFile d new.core (λ b below. restarted_node b below d) → Restarts old →
     (b : ServiceBook) (x : NodeId) (n : Node Entry) → StandsOverFile old b x n → StandsOverFile new b x (restart {A = Response} {F = Rejection} b n).node
-turned old new d before after stands gives b x n s =
+turned old new d before after stands law b x n s =
     let f = s.file d before in
-    let here : StandsFor Stands new.core (ledger_book service_layers f.keys) (node_of d) (restarted_node (ledger_book service_layers f.keys) d) = stands f.keys f.key in
-    let as_book : StandsFor Stands new.core b (node_of d) (restarted_node b d) = subst (λ (v : ServiceBook). StandsFor Stands new.core v (node_of d) (restarted_node v d)) (sym f.book) here in
-    let as_node : StandsFor Stands new.core b x (restarted_node b d) = subst (λ (y : NodeId). StandsFor Stands new.core b y (restarted_node b d)) (sym f.named) as_book in
+    let under = take n.base n.log in
+    let is_under : IsBelow d under = law.below b x n s.core d (law.holds b x n s.core d before) in
+    let here : StandsFor Stands new.core (ledger_book service_layers f.keys) (node_of d) (restarted_node (ledger_book service_layers f.keys) under d) = stands f.keys f.key under is_under in
+    let as_book : StandsFor Stands new.core b (node_of d) (restarted_node b under d) = subst (λ (v : ServiceBook). StandsFor Stands new.core v (node_of d) (restarted_node v under d)) (sym f.book) here in
+    let as_node : StandsFor Stands new.core b x (restarted_node b under d) = subst (λ (y : NodeId). StandsFor Stands new.core b y (restarted_node b under d)) (sym f.named) as_book in
     record {
-      core = subst (λ (m : Node Entry). StandsFor Stands new.core b x m) (gives b x n s.core d before) as_node;
+      core = subst (λ (m : Node Entry). StandsFor Stands new.core b x m) (law.gives b x n s.core d before) as_node;
       file = file_kept new.disk.bytes d b x after f;
     }
 
@@ -124,14 +134,19 @@ restart_says : (b : ServiceBook) (n : Node Entry) → ((restart {A = Response} {
 unfolding restart
 restart_says b n = (refl, refl)
 
-pub restarted_steps : (old new : SeenFileNode) (done : ServiceDone NodeStore) (d : Durable) → opened old.disk.bytes ≡ Ok d → opened new.disk.bytes ≡ Ok d → StandsForFile d new.core (λ b. restarted_node b d) →
-    Reports Stands old.core (λ b x n. (e : Durable) → opened old.disk.bytes ≡ Ok e → GivesRestart b n e) → done.outcome ≡ answers.Done → done.sent ≡ [] →
-    Steps StandsOverFile (λ b x n. restart b n) old done new
-restarted_steps old new done d before after stands gives is none b x n s = record {
-  node = turned old new d before after stands gives b x n s;
+pub restarted_steps : (old new : SeenFileNode) (done : ServiceDone NodeStore) (d : Durable) → opened old.disk.bytes ≡ Ok d → opened new.disk.bytes ≡ Ok d → StandsForFile d new.core (λ b below. restarted_node b below d) → Restarts old →
+    done.outcome ≡ answers.Done → done.sent ≡ [] → Steps StandsOverFile (λ b x n. restart b n) old done new
+restarted_steps old new done d before after stands law is none b x n s = record {
+  node = turned old new d before after stands law b x n s;
   outcome = ap seen_outcome is ∙ sym (restart_says b n).0;
   sent = ap (map seen_message) none ∙ sym (restart_says b n).1;
 }
+
+-- the snapshot that the file holds stands for a ledger too
+pub file_ledger : (old : SeenFileNode) (d : Durable) → IsFileNode old → opened old.disk.bytes ≡ Ok d → (HasLedger old.core.book.ledger.snapshot → OpensToCore held_in goes_on_ledger old.disk.bytes old.core) → HasLedger d.snapshot
+file_ledger old d is opens keeps =
+    let kept = keeps is.ledger in
+    subst HasLedger (sym kept.2.snapshot ∙ ap (λ (e : Durable). e.snapshot) (one_state old.disk.bytes kept.0 d kept.1 opens)) is.ledger
 
 -- ---- why a node refuses
 
@@ -172,17 +187,22 @@ served_steps event old new done is kept steps b x n s =
       sent = p.sent;
     }
 
-pub serves_on : (event : NodeEvent) (old new : SeenFileNode) → IsFileNode old → StandsForSome Stands old.core → KeepsRule event old new → new.stopped ≡ old.stopped → IsFileNode new
-serves_on event old new is some kept same = record {
-  serves = same ∙ is.serves;
-  state = kept_after is.state (rule_of event some.rules some.me some.node).node;
-  file = record { opens = kept some.rules some.me some.node some.standing is.state is.file.opens; kind = is.file.kind };
-}
+pub serves_on : (event : NodeEvent) (old new : SeenFileNode) → IsFileNode old → (HasLedger old.core.book.ledger.snapshot → StandsForSome Stands old.core) → KeepsRule event old new → new.stopped ≡ old.stopped →
+    new.core.book.ledger.snapshot ≡ old.core.book.ledger.snapshot → IsFileNode new
+serves_on event old new is stands kept same snapshot =
+    let some = stands is.ledger in
+    record {
+      serves = same ∙ is.serves;
+      ledger = subst HasLedger (sym snapshot) is.ledger;
+      state = kept_after is.state (rule_of event some.rules some.me some.node).node;
+      file = record { opens = kept some.rules some.me some.node some.standing is.state is.file.opens; kind = is.file.kind };
+    }
 
 -- and one that refuses
-pub refuses_on : (old new : SeenFileNode) → IsFileNode old → new.disk.bytes ≡ old.disk.bytes → new.stopped ≡ old.stopped → IsFileNode new
-refuses_on old new is bytes same = record {
+pub refuses_on : (old new : SeenFileNode) → IsFileNode old → new.disk.bytes ≡ old.disk.bytes → new.stopped ≡ old.stopped → new.core.book.ledger.snapshot ≡ old.core.book.ledger.snapshot → IsFileNode new
+refuses_on old new is bytes same snapshot = record {
   serves = same ∙ is.serves;
+  ledger = subst HasLedger (sym snapshot) is.ledger;
   state = is.state;
   file = record { opens = ap opened bytes ∙ is.file.opens; kind = is.file.kind };
 }

@@ -1,5 +1,5 @@
 -- What a stop leaves of a key file, and which leaves are told, run after run.
-use Rattle.std.proofs.Common.{◌≡◌, ◌⊎◌, inl, inr, ℕ, zero, suc, ◌+◌, ◌≤◌, ◌<◌, List, [], ◌∷◌, ◌++◌, Option, None, Some, Bool, true, false, if◌then◌else◌, nat_lt, ◌==◌, ◌^◌, length, Result, Ok, Err, IsTrue, All, AllPairs, refl, sym, subst, ap, ◌∙◌, arith}
+use Rattle.std.proofs.Common.{◌≡◌, ◌⊎◌, inl, inr, ℕ, zero, suc, ◌+◌, ◌≤◌, ◌<◌, List, [], ◌∷◌, ◌++◌, Option, None, Some, Bool, true, false, length, Result, Ok, Err, IsTrue, All, AllPairs, refl, sym, subst, ap, ◌∙◌, arith}
 use Rattle.std.proofs.lemmas.List.Elements.{All-append, All-head, All-nil, All-cons, All-tail, All-weaker}
 use Rattle.std.proofs.lemmas.List.Kept.{AllPairs-cons}
 use Rattle.gl_commands.specs.declared.task.Asked.{Asked}
@@ -13,45 +13,37 @@ use Rattle.gl_hss.specs.declared.types.Types.{Types}
 use Rattle.gl_journal.specs.Durable.{Durable, journal_header, key_alone}
 use Rattle.gl_journal.specs.Kept.{IsKept}
 use Rattle.gl_journal.specs.Parts.{HasGate}
-use Rattle.gl_journal.specs.Records.{key_kind_tag}
 use Rattle.gl_journal.specs.declared.fault.JournalFault.{JournalFault}
 use Rattle.gl_journal.specs.declared.journal.Journal.{Journal}
 use Rattle.gl_journal.specs.declared.key.Key.{Key}
 use Rattle.gl_journal.specs.declared.key.KeyKind.{KeyKind}
-use Rattle.gl_journal.specs.declared.key.KeyKind.TheVariants as kinds
 use Rattle.gl_journal.proofs.Appending.{has_gate}
 use Rattle.gl_keyfile.specs.Leaf.{after_leaf}
 use Rattle.gl_keyfile.specs.SigningRequest.{use_of}
 use Rattle.gl_keyfile.specs.declared.leaf.LeafUse.{LeafUse}
 use Rattle.gl_keyfile.specs.declared.leaf.LeafUse.TheVariants.{Signature, Start}
-use Rattle.gl_ledger.specs.LedgerBook.{ServiceBook, ledger_book}
+use Rattle.gl_ledger.specs.LedgerBook.{ledger_book}
 use Rattle.gl_ledger.specs.NodeKeys.{NodeKeys, service_layers}
 use Rattle.gl_outside.specs.Disk.{IsImage, Leaves, Step}
 use Rattle.gl_outside.proofs.Moments.{now, so_too, started, stayed}
-use Rattle.gl_rules.specs.Node.{Node}
-use Rattle.gl_rules.specs.Replication.{restart}
-use Rattle.gl_rules.specs.Steps.{lead_if}
-use Rattle.gl_rules.specs.World as world
 use Rattle.gl_serve.specs.Life.{told_through}
 use Rattle.gl_serve.proofs.Telling.{life_tells}
-use Rattle.gl_store_book.specs.AtOpening.{leads_at_opening, opened_state, opening_size, restarted_node}
 use Rattle.gl_store_book.specs.Frames.{goes_on_ledger}
 use Rattle.gl_store_book.specs.NodeFile.{key_of, node_of, opened}
-use Rattle.gl_store_book.specs.ServiceStart.{start_in}
+use Rattle.gl_store_book.specs.Replicas.{IsBelow}
 use Rattle.gl_store_book.specs.Stands.{Stands}
-use Rattle.gl_store_book.specs.declared.node_file.fault.OpeningFault.{OpeningFault}
-use Rattle.gl_store_book.specs.declared.node_file.fault.OpeningFault.TheVariants as faults
 use Rattle.ccfg.specs.Commands.{Does, TaskDoes}
 use Rattle.ccfg.specs.ExpectedOutput.{PrintsFaultPrefix}
-use Rattle.ccfg.specs.KeyLife.{Follow, GoesOnFrom, HoldsKey, KeyRun, LeavesKey, Tells, TellsBySigning, TellsByServing, TellsNext, TellsUnlessFault, next_leaf, steps_after, told_by_all}
+use Rattle.ccfg.specs.KeyLife.{Follow, GoesOnFrom, HoldsKey, KeyRun, LeavesKey, MayServe, Tells, TellsBySigning, TellsByServing, TellsNext, TellsUnlessFault, next_leaf, steps_after, told_by_all}
 use Rattle.ccfg.specs.KeygenCommand.{KeygenDoes}
 use Rattle.ccfg.specs.NodeCommand.{NodeDoes}
-use Rattle.ccfg.specs.Nodes.{BeginsBy, Beginning, KeepsNode, OfOpened, begin_after, begin_with, beginning, beginning_of, opened_by, reopened}
+use Rattle.ccfg.specs.Nodes.{BeginsBy, KeepsNode, OfLedger, OfOpened, beginning_of}
 use Rattle.ccfg.specs.Plans.{KeepsKey, MayBeLeft, SpendsLeaf}
 use Rattle.ccfg.specs.Run.{DiskRun, LinkRun, Run}
 use Rattle.ccfg.specs.SignCommand.{TakesLeaf}
 use Rattle.ccfg.specs.declared.ending.Ending.{Ending}
 use Rattle.ccfg.specs.declared.ending.Ending.TheVariants as endings
+use Rattle.ccfg.proofs.NodeStarts.{start_leaves}
 use Rattle.ccfg.proofs.ShownLemmas.{from_given, of_map}
 
 -- a settled journal has its closed gate, whatever is left of it
@@ -78,62 +70,6 @@ pub begins : {S D : Type 0} (kind : KeyKind) (types : Types) (r : Run S D) → K
 begins kind types r does honest =
     of_map r.source.given (KeepsKey kind types (r.disk.past r.disk.after)) (λ seed. LeavesKey (record { kind = kind; types = types; seed = seed }) 0 (r.disk.past r.disk.after))
     (λ seed keeps image left. record { gate = (keeps image left).0; state = key_alone (record { kind = kind; types = types; seed = seed }); opens = (keeps image left).1; same = refl; least = omega arith }) (does.kept refl honest)
-
--- ---- how a node begins
-
--- it has the key and the leaves of its file, and counts all of them as used
-record StartLeaves (d : Durable) (start : Beginning) : Type 0 where
-  reserved : start.state.reserved ≡ d.reserved
-  used : (b : ServiceBook) → (start.node b).used ≡ d.reserved
-  kept : (b : ServiceBook) → (start.node b).reserved ≡ d.reserved
-
-restarted_used : (b : ServiceBook) (d : Durable) → (restarted_node b d).used ≡ d.reserved
-unfolding restart
-restarted_used b d = refl
-
-restarted_reserved : (b : ServiceBook) (d : Durable) → (restarted_node b d).reserved ≡ d.reserved
-unfolding restart
-restarted_reserved b d = refl
-
-lead_used : (b : ServiceBook) (leads : Bool) (n : Node Entry) → (lead_if b leads n).used ≡ n.used
-lead_used b true n = refl
-lead_used b false n = refl
-
-lead_reserved : (b : ServiceBook) (leads : Bool) (n : Node Entry) → (lead_if b leads n).reserved ≡ n.reserved
-lead_reserved b true n = refl
-lead_reserved b false n = refl
-
-module _ (d : Durable) where
-  abbrev Good : Result Beginning OpeningFault → Type 0
-  Good (Ok start) = StartLeaves d start
-  Good (Err fault) = Unit {0}
-
-  reopened_leaves : StartLeaves d (reopened d)
-  reopened_leaves = record { reserved = refl; used = λ b. restarted_used b d; kept = λ b. restarted_reserved b d }
-
-  opened_leaves : (s : world.Start Entry) → StartLeaves d (opened_by s d)
-  opened_leaves s = record {
-    reserved = refl;
-    used = λ b. lead_used b (leads_at_opening s d) (restarted_node b (opened_state s d)) ∙ restarted_used b (opened_state s d);
-    kept = λ b. lead_reserved b (leads_at_opening s d) (restarted_node b (opened_state s d)) ∙ restarted_reserved b (opened_state s d);
-  }
-
-  by_if : (c : Bool) (x y : Result Beginning OpeningFault) → Good x → Good y → Good (if c then x else y)
-  by_if true x y first second = first
-  by_if false x y first second = second
-
-  with_start : (start : Result (world.Start Entry) ℕ) → Good (begin_with d start)
-  with_start (Err seqno) = tt
-  with_start (Ok s) = by_if (nat_lt (opening_size s d) (2 ^ 32)) (Ok (opened_by s d)) (Err (faults.TooLarge (opening_size s d))) (opened_leaves s) tt
-
-  after_log : (log : List (List ℕ)) (given : List ℕ) → Good (begin_after d log given)
-  after_log [] [] = reopened_leaves
-  after_log [] (byte ∷ given) = with_start (start_in (byte ∷ given))
-  after_log (frame ∷ frames) given = reopened_leaves
-
-  start_leaves : (given : List ℕ) (start : Beginning) → beginning_of (Ok d) given ≡ Ok start → StartLeaves d start
-  start_leaves given start is =
-      subst Good is (by_if (key_kind_tag kinds.Node == key_kind_tag d.key.kind) (beginning d given) (Err (faults.KeyKind kinds.Node d.key.kind)) (after_log d.log given) tt)
 
 -- ---- one run
 
@@ -238,29 +174,30 @@ module _ {S D : Type 0} (key : Key) (spent : ℕ) (r : Run S D) (b : BeginsWithK
       let same = ap (λ (s : Durable). s.reserved) one in
       record { gate = gate; state = state; opens = is; same = kept ∙ ap (λ (s : Durable). s.key) one ∙ b.holds.same; least = omega (arith, least, same, more) }
 
-  module _ {L : Type 0} (node : NodeTask) (link : LinkRun L) (e : Ending) (does : NodeDoes node r link e) where
+  module _ {L : Type 0} (node : NodeTask) (link : LinkRun L) (e : Ending) (does : NodeDoes node r link e) (of : OfLedger (opened (r.disk.bytes r.disk.before))) where
     node_keeps : Keeps
-    node_keeps = so_too (KeepsNode (r.disk.bytes r.disk.before) before) (HoldsKey key spent) before after node_left_so (does.any_moment b.honest b.holds.gate)
+    node_keeps = so_too (KeepsNode (r.disk.bytes r.disk.before) before) (HoldsKey key spent) before after node_left_so (does.any_moment b.honest b.holds.gate of)
 
     module _ (told : List ℕ) (t : TellsByServing node r link told) where
       abbrev IsBegun : Result Durable JournalFault → List ℕ → Type 0
       IsBegun opens given =
           (by : BeginsBy r.disk.honest r.disk.bytes r.disk.past r.disk.faults opens given t.first)
           × (keys : NodeKeys) × (keys.key_of (node_of by.state) ≡ key_of by.state)
-          × (told ≡ told_through (ledger_book service_layers keys) (node_of by.state) (by.start.node (ledger_book service_layers keys)) t.life)
+          × (below : List Entry) × IsBelow by.state below
+          × (told ≡ told_through (ledger_book service_layers keys) (node_of by.state) (by.start.node (ledger_book service_layers keys) below) t.life)
 
       begun_tells : (given : List ℕ) → IsBegun (opened (r.disk.bytes r.disk.before)) given → Telling key spent after told
-      begun_tells given (by, keys, keyed, told_is) =
+      begun_tells given (by, keys, keyed, below, stood, told_is) =
           let state = by.state in
           let book = ledger_book service_layers keys in
           let me = node_of state in
-          let n = by.start.node book in
+          let n = by.start.node book below in
           let has = start_leaves state given by.start (ap (λ (o : Result Durable JournalFault). beginning_of o given) (sym by.found) ∙ by.begins) in
-          let tells = life_tells Stands goes_on_ledger r.disk.honest r.disk.bytes r.disk.past r.disk.faults b.honest book me t.first t.last t.life t.lives n (by.began.stands keys keyed) by.start.state
-          (by.began.at_rest b.honest) (by.began.keeps b.honest) (has.reserved ∙ sym (has.kept book)) in
+          let tells = life_tells Stands goes_on_ledger r.disk.honest r.disk.bytes r.disk.past r.disk.faults b.honest book me t.first t.last t.life t.lives n (by.began.stands keys keyed below stood) by.start.state
+          (by.began.at_rest b.honest) (by.began.keeps b.honest) (has.reserved ∙ sym (has.kept book below)) in
           let one = ap (λ (s : Durable). s.reserved) (one_state (r.disk.bytes r.disk.before) b.holds.state state b.holds.opens by.found) in
           let least = b.holds.least in
-          let used = has.used book in
+          let used = has.used book below in
           let moved = now (HoldsKey key spent) before after node_keeps in
           subst (Telling key spent after) (sym told_is) (record {
             once = tells.once;
@@ -299,25 +236,25 @@ module _ {S D : Type 0} (key : Key) (spent : ℕ) (r : Run S D) (b : BeginsWithK
   task_keeps task e does = same_moments (ap r.disk.past does.disk.same)
 
   module _ {L : Type 0} (link : LinkRun L) (e : Ending) where
-    run_keeps : (asked : Asked) → Does asked r link e → Keeps
-    run_keeps (asks.Task task) does = task_keeps task e does.0
-    run_keeps (asks.Load load) does = same_moments (ap r.disk.past does.0.disk.same)
-    run_keeps (asks.Node node) does = node_keeps node link e does.0
+    run_keeps : (asked : Asked) → MayServe asked r → Does asked r link e → Keeps
+    run_keeps (asks.Task task) may does = task_keeps task e does.0
+    run_keeps (asks.Load load) may does = same_moments (ap r.disk.past does.0.disk.same)
+    run_keeps (asks.Node node) may does = node_keeps node link e does.0 may
 
     task_tells : (task : Task) (told : List ℕ) → TaskDoes task r e → Tells (asks.Task task) r link e told → Telling key spent after told
     task_tells (tasks.Sign signing) told does tells = signing_tells (use_of signing) e told (does.leaf b.honest) tells
     task_tells tasks.Recover told does tells = signing_tells Start e told (does.leaf b.honest) tells
     task_tells task told does tells = none_told key spent after told tells
 
-    run_tells : (asked : Asked) (told : List ℕ) → Does asked r link e → Tells asked r link e told → Telling key spent after told
-    run_tells (asks.Task task) told does tells = task_tells task told does.0 tells
-    run_tells (asks.Load load) told does tells = none_told key spent after told tells
-    run_tells (asks.Node node) told does (inl none) = none_told key spent after told none
-    run_tells (asks.Node node) told does (inr t) = serving_tells node link e does.0 told t
+    run_tells : (asked : Asked) (told : List ℕ) → MayServe asked r → Does asked r link e → Tells asked r link e told → Telling key spent after told
+    run_tells (asks.Task task) told may does tells = task_tells task told does.0 tells
+    run_tells (asks.Load load) told may does tells = none_told key spent after told tells
+    run_tells (asks.Node node) told may does (inl none) = none_told key spent after told none
+    run_tells (asks.Node node) told may does (inr t) = serving_tells node link e does.0 may told t
 
-pub any_moment : {S D L : Type 0} (key : Key) (spent : ℕ) (past : List Step) (asked : Asked) (r : Run S D) (link : LinkRun L) (e : Ending) → LeavesKey key spent past → GoesOnFrom past r.disk → Does asked r link e →
+pub any_moment : {S D L : Type 0} (key : Key) (spent : ℕ) (past : List Step) (asked : Asked) (r : Run S D) (link : LinkRun L) (e : Ending) → LeavesKey key spent past → GoesOnFrom past r.disk → MayServe asked r → Does asked r link e →
     Leaves (HoldsKey key spent) (r.disk.past r.disk.before) (r.disk.past r.disk.after)
-any_moment key spent past asked r link e leaves from does = run_keeps key spent r (begun key spent past r.disk leaves from) link e asked does
+any_moment key spent past asked r link e leaves from may does = run_keeps key spent r (begun key spent past r.disk leaves from) link e asked may does
 
 -- ---- all runs
 
@@ -331,19 +268,19 @@ pairs_append (x ∷ xs) ys first second across =
 module _ {S D L : Type 0} (key : Key) where
   still_leaves : (runs : List (KeyRun S D L)) (spent : ℕ) (past : List Step) → LeavesKey key spent past → Follow past runs → LeavesKey key spent (steps_after past runs)
   still_leaves [] spent past leaves follow = leaves
-  still_leaves (it ∷ more) spent past leaves (from, does, tells, follow) =
+  still_leaves (it ∷ more) spent past leaves (from, may, does, tells, follow) =
       let r = it.run in
       still_leaves more spent (r.disk.past r.disk.after)
-      (now (HoldsKey key spent) (r.disk.past r.disk.before) (r.disk.past r.disk.after) (any_moment key spent past it.asked r it.link it.ending leaves from does)) follow
+      (now (HoldsKey key spent) (r.disk.past r.disk.before) (r.disk.past r.disk.after) (any_moment key spent past it.asked r it.link it.ending leaves from may does)) follow
 
   pub runs_tell : (runs : List (KeyRun S D L)) (spent : ℕ) (past : List Step) → LeavesKey key spent past → Follow past runs → Telling key spent (steps_after past runs) (told_by_all runs)
   runs_tell [] spent past leaves follow = nothing key spent past
-  runs_tell (it ∷ more) spent past leaves (from, does, tells, follow) =
+  runs_tell (it ∷ more) spent past leaves (from, may, does, tells, follow) =
       let r = it.run in
       let after = r.disk.past r.disk.after in
       let end = steps_after after more in
-      let here = run_tells key spent r (begun key spent past r.disk leaves from) it.link it.ending it.asked it.told does tells in
-      let left = now (HoldsKey key spent) (r.disk.past r.disk.before) after (any_moment key spent past it.asked r it.link it.ending leaves from does) in
+      let here = run_tells key spent r (begun key spent past r.disk leaves from) it.link it.ending it.asked it.told may does tells in
+      let left = now (HoldsKey key spent) (r.disk.past r.disk.before) after (any_moment key spent past it.asked r it.link it.ending leaves from may does) in
       let rest = runs_tell more spent after left follow in
       record {
         once = pairs_append it.told (told_by_all more) here.once rest.once

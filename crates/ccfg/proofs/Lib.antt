@@ -14,4 +14,5 @@ pub mod DiskLemmas
 pub mod FileNodes
 pub mod NodeEvents
 pub mod FileStarts
+pub mod NodeStarts
 pub mod KeyLifeLemmas

@@ -9,11 +9,11 @@ use Rattle.gl_outside.specs.Disk.{Leaves, Step}
 use Rattle.gl_outside.proofs.Moments.{so_too, started, stayed, then_too}
 use Rattle.gl_store_book.specs.AtOpening.{opened_state}
 use Rattle.gl_store_book.specs.Frames.{goes_on_ledger}
-use Rattle.gl_store_book.specs.NodeFile.{opened}
+use Rattle.gl_store_book.specs.NodeFile.{has_ledger, opened}
 use Rattle.gl_serve.specs.OverLink.{KeepsLeaves}
 use Rattle.gl_store_book.specs.Stands.{NodeStore}
 use Rattle.gl_serve.specs.Types.{NodeSeen}
-use Rattle.ccfg.specs.Nodes.{IsUnserved, KeepsNode, KeepsOpening, MovesNode, disk_after, has_ledger}
+use Rattle.ccfg.specs.Nodes.{IsUnserved, KeepsNode, KeepsOpening, MovesNode, disk_after}
 use Rattle.gl_store_book.specs.declared.node_file.fault.OpeningFault.{OpeningFault}
 use Rattle.ccfg.specs.declared.node.NodeError.{NodeError}
 use Rattle.ccfg.specs.declared.node.NodeError.TheVariants as stops
@@ -30,12 +30,12 @@ pub reopened_disk : {D : Type 0} (r : Result (NodeSeen D NodeStore) (NodeError �
 reopened_disk (Ok replica) disk same err = same
 reopened_disk (Err (why, back)) disk same err = (err why back refl).1
 
-one_of : (s : Start Entry) (d : Durable) → has_ledger d.log ≡ false → (image : List ℕ) → OpensToOneOf goes_on_ledger d (opened_state s d) image → KeepsOpening d image
+one_of : (s : Start Entry) (d : Durable) → has_ledger d ≡ false → (image : List ℕ) → OpensToOneOf goes_on_ledger d (opened_state s d) image → KeepsOpening d image
 one_of s d none image (gate, inl is) = (gate, inl is)
 one_of s d none image (gate, inr is) = (gate, inr (none, s, is))
 
 -- the opening ledger was kept, or was to be
-pub opening_moments : (s : Start Entry) (d : Durable) (before after : List Step) → has_ledger d.log ≡ false → Leaves (OpensToOneOf goes_on_ledger d (opened_state s d)) before after → Leaves (KeepsOpening d) before after
+pub opening_moments : (s : Start Entry) (d : Durable) (before after : List Step) → has_ledger d ≡ false → Leaves (OpensToOneOf goes_on_ledger d (opened_state s d)) before after → Leaves (KeepsOpening d) before after
 opening_moments s d before after none = so_too (OpensToOneOf goes_on_ledger d (opened_state s d)) (KeepsOpening d) before after (one_of s d none)
 
 -- the disk failed, or it didn't

@@ -21,7 +21,7 @@ use Rattle.gl_node.specs.Seen.{Seen}
 use Rattle.gl_rules.specs.Replication.{restart}
 use Rattle.gl_world.specs.WorldNodes.{Rule}
 use Rattle.gl_store_book.specs.NodeFile.{IsOpened, key_of, node_of, opened}
-use Rattle.gl_store_book.specs.Stands.{NodeStore, Stands}
+use Rattle.gl_store_book.specs.Stands.{HasLedger, NodeStore, Stands}
 
 -- The node, the disk with its file, and whether it has stopped.
 abbrev pub SeenFileNode : Type 0
@@ -32,9 +32,10 @@ pub record OpensToNode (bytes : List ℕ) (state : Durable) : Type 0 where
   pub opens : opened bytes ≡ Ok state
   pub kind : state.key.kind ≡ kinds.Node
 
--- The node serves, and its file is a node's.
+-- The node serves, its snapshot, if it has one, stands for a ledger, and its file is a node's.
 pub record IsFileNode (f : SeenFileNode) : Type 0 where
   pub serves : f.stopped ≡ None
+  pub ledger : HasLedger f.core.book.ledger.snapshot
   pub state : Durable
   pub file : OpensToNode f.disk.bytes state
 

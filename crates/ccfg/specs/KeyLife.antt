@@ -4,6 +4,7 @@ use Rattle.std.specs.Prelude.{◌≡◌, ◌⊎◌, ◌≤◌, ◌+◌, ℕ, Lis
 use Rattle.gl_commands.specs.declared.task.Asked.{Asked}
 use Rattle.gl_commands.specs.declared.task.Asked.TheVariants as asks
 use Rattle.gl_commands.specs.declared.task.NodeTask.{NodeTask}
+use Rattle.gl_entry.specs.declared.entry.Entry.{Entry}
 use Rattle.gl_journal.specs.Durable.{Durable, journal_header}
 use Rattle.gl_journal.specs.Parts.{HasGate}
 use Rattle.gl_journal.specs.declared.fault.JournalFault.{JournalFault}
@@ -16,10 +17,11 @@ use Rattle.gl_serve.specs.Life.{Lived, Lives, told_through}
 use Rattle.gl_serve.specs.Types.{NodeSeen}
 use Rattle.gl_store_book.specs.Frames.{goes_on_ledger}
 use Rattle.gl_store_book.specs.NodeFile.{key_of, node_of, opened}
+use Rattle.gl_store_book.specs.Replicas.{IsBelow}
 use Rattle.gl_store_book.specs.Stands.{NodeStore, Stands}
 use Rattle.ccfg.specs.Commands.{Does, leaf_use}
 use Rattle.ccfg.specs.ExpectedOutput.{PrintsFaultPrefix}
-use Rattle.ccfg.specs.Nodes.{BeginsBy, OfBeginning}
+use Rattle.ccfg.specs.Nodes.{BeginsBy, OfBeginning, OfLedger}
 use Rattle.ccfg.specs.Run.{DiskRun, LinkRun, Run}
 use Rattle.ccfg.specs.declared.ending.Ending.{Ending}
 use Rattle.ccfg.specs.declared.ending.Ending.TheVariants as endings
@@ -80,7 +82,7 @@ module _ {S D : Type 0} (r : Run S D) (told : List ℕ) where
   TellsByUse (Some leaf) e = TellsBySigning e
 
 -- A node that began: the leaves of the signatures that its events made, under the book of a service
--- in which it has the key of its file.
+-- in which it has the key of its file, and with entries for which its file's snapshot stands.
 pub record TellsByServing {S D L : Type 0} (node : NodeTask) (r : Run S D) (link : LinkRun L)
     (told : List ℕ) : Type 0 where
   pub first : NodeSeen D NodeStore
@@ -92,8 +94,9 @@ pub record TellsByServing {S D L : Type 0} (node : NodeTask) (r : Run S D) (link
   pub leaves : OfBeginning node r link (λ opens given.
       (by : BeginsBy r.disk.honest r.disk.bytes r.disk.past r.disk.faults opens given first)
       × (keys : NodeKeys) × (keys.key_of (node_of by.state) ≡ key_of by.state)
+      × (below : List Entry) × IsBelow by.state below
       × (told ≡ told_through (ledger_book service_layers keys) (node_of by.state)
-      (by.start.node (ledger_book service_layers keys)) life))
+      (by.start.node (ledger_book service_layers keys) below) life))
 
 -- The leaves by which a run may have told signatures, by what it was asked and how it ended.
 abbrev pub Tells : {S D L : Type 0} → Asked → Run S D → LinkRun L → Ending → List ℕ → Type 0
@@ -111,13 +114,20 @@ pub record KeyRun (S D L : Type 0) : Type 0 where
   pub ending : Ending
   pub told : List ℕ
 
+-- A run that serves as a node begins with a file whose snapshot, if it has one, stands for a
+-- ledger. Nothing is asked of any other.
+abbrev pub MayServe : {S D : Type 0} → Asked → Run S D → Type 0
+MayServe (asks.Task task) r = Unit {0}
+MayServe (asks.Load load) r = Unit {0}
+MayServe (asks.Node node) r = OfLedger (opened (r.disk.bytes r.disk.before))
+
 -- The first begins with what a stop may have left once these steps were done, and each next one
--- with what it may have left of the one before.
+-- with what it may have left of the one before. Each one that is a node's may serve.
 abbrev pub Follow : {S D L : Type 0} → List Step → List (KeyRun S D L) → Type 0
 Follow past [] = Unit {0}
 Follow past (it ∷ more) =
-    GoesOnFrom past it.run.disk × Does it.asked it.run it.link it.ending
-    × Tells it.asked it.run it.link it.ending it.told
+    GoesOnFrom past it.run.disk × MayServe it.asked it.run
+    × Does it.asked it.run it.link it.ending × Tells it.asked it.run it.link it.ending it.told
     × Follow (it.run.disk.past it.run.disk.after) more
 
 -- The leaves of all of them, in their order, and the steps that were done to the last one's disk.

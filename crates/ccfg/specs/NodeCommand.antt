@@ -6,8 +6,8 @@ use Rattle.gl_journal.specs.Parts.{HasGate}
 use Rattle.gl_journal.specs.declared.fault.JournalFault.{JournalFault}
 use Rattle.gl_journal.specs.declared.key.KeyKind.TheVariants.{Node}
 use Rattle.gl_outside.specs.Disk.{IsImage, Leaves}
-use Rattle.gl_store_book.specs.NodeFile.{opened}
-use Rattle.ccfg.specs.Nodes.{MovesNode, NodeRuns, has_ledger}
+use Rattle.gl_store_book.specs.NodeFile.{has_ledger, opened}
+use Rattle.ccfg.specs.Nodes.{MovesNode, NodeRuns, OfLedger}
 use Rattle.ccfg.specs.Run.{IsUnread, LinkRun, Run}
 use Rattle.ccfg.specs.SignCommand.{IsForeign}
 use Rattle.ccfg.specs.declared.ending.Ending.{Ending}
@@ -16,17 +16,19 @@ use Rattle.ccfg.specs.declared.ending.Ending.TheVariants.{DiskFailed}
 -- A file with which a node needs no source: none of a node, or one that has a ledger.
 abbrev pub NeedsNoSource : Result Durable JournalFault → Type 0
 NeedsNoSource (Err fault) = Unit {0}
-NeedsNoSource (Ok d) = (d.key.kind ≢ Node) ⊎ (has_ledger d.log ≡ true)
+NeedsNoSource (Ok d) = (d.key.kind ≢ Node) ⊎ (has_ledger d ≡ true)
 
 pub record NodeDoes {S D L : Type 0} (node : NodeTask) (r : Run S D) (link : LinkRun L)
     (e : Ending) : Type 0 where
   -- It began by its file and the source, what it did over the link came to this end, and so the run
   -- ends and writes.
   pub exact : NodeRuns node r link e
-  -- Whatever the ending: where the file of an honest disk has its closed gate, then at every moment
-  -- each image that a stop may leave is one that it might have left before, or opens as the disk's
-  -- bytes do, or to their key with no fewer spent leaves.
+  -- Whatever the ending: where the file of an honest disk has its closed gate, and its snapshot, if
+  -- it has one, stands for a ledger, then at every moment each image that a stop may leave is one
+  -- that it might have left before, or opens as the disk's bytes do, or to their key with no fewer
+  -- spent leaves.
   pub any_moment : IsTrue r.disk.honest → HasGate journal_header (r.disk.bytes r.disk.before) →
+      OfLedger (opened (r.disk.bytes r.disk.before)) →
       MovesNode (r.disk.bytes r.disk.before) (r.disk.past r.disk.before)
       (r.disk.past r.disk.after)
   -- A file that opens to nothing is left alone: at every moment a stop leaves what it might have

@@ -16,10 +16,10 @@ use Rattle.gl_journal.specs.declared.fault.JournalFault.{JournalFault}
 use Rattle.gl_journal.specs.declared.key.KeyKind.TheVariants as kinds
 use Rattle.gl_store_book.specs.AtOpening.{node_at_opening, opened_state, opening_size, restarted_node}
 use Rattle.gl_store_book.specs.Frames.{goes_on_ledger}
-use Rattle.gl_store_book.specs.NodeFile.{opened}
+use Rattle.gl_store_book.specs.NodeFile.{has_ledger, opened}
 use Rattle.gl_store_book.specs.Replicas.{StandsForFile}
 use Rattle.gl_store_book.specs.ServiceStart.{start_in}
-use Rattle.gl_store_book.specs.Stands.{NodeStore, Stands}
+use Rattle.gl_store_book.specs.Stands.{HasLedger as IsOfLedger, NodeStore, Stands}
 use Rattle.gl_store_book.specs.declared.node_file.fault.OpeningFault.{OpeningFault}
 use Rattle.gl_store_book.specs.declared.node_file.fault.OpeningFault.TheVariants as faults
 use Rattle.gl_commands.specs.declared.task.NodeTask.{NodeTask}
@@ -41,18 +41,19 @@ use Rattle.ccfg.specs.declared.node.NodeError.{NodeError}
 
 -- ---- how a node begins
 
--- What the file of a node opens to as it begins to serve, and which node of the rules it is then.
+-- What the file of a node opens to as it begins to serve, and which node of the rules it is then,
+-- by the entries up to its base, which the file doesn't tell.
 pub record Beginning : Type 0 where
   pub state : Durable
-  pub node : ServiceBook → Node Entry
+  pub node : ServiceBook → List Entry → Node Entry
 
 -- It goes on from what its file keeps, as a restart leaves it.
 abbrev pub reopened : Durable → Beginning
-reopened d = record { state = d; node = λ b. restarted_node b d }
+reopened d = record { state = d; node = λ b below. restarted_node b below d }
 
 -- It begins with an opening ledger, which its file then keeps.
 abbrev pub opened_by : Start Entry → Durable → Beginning
-opened_by s d = record { state = opened_state s d; node = λ b. node_at_opening b s d }
+opened_by s d = record { state = opened_state s d; node = λ b below. node_at_opening b s d }
 
 -- An opening ledger has to fit one batch of the file.
 abbrev pub begin_with : Durable → Result (Start Entry) ℕ → Result Beginning OpeningFault
@@ -66,13 +67,9 @@ abbrev pub begin_from : Durable → List ℕ → Result Beginning OpeningFault
 begin_from d [] = Ok (reopened d)
 begin_from d (byte ∷ given) = begin_with d (start_in (byte ∷ given))
 
--- Where the file has a ledger, the source is not asked.
-abbrev pub begin_after : Durable → List (List ℕ) → List ℕ → Result Beginning OpeningFault
-begin_after d [] given = begin_from d given
-begin_after d (frame ∷ frames) given = Ok (reopened d)
-
+-- Where the file has a ledger, or a snapshot behind which one begins, the source is not asked.
 abbrev pub beginning : Durable → List ℕ → Result Beginning OpeningFault
-beginning d given = begin_after d d.log given
+beginning d given = if has_ledger d then Ok (reopened d) else begin_from d given
 
 -- The same by what the bytes of the disk open to: a journal whose key is a node's.
 abbrev pub beginning_of : Result Durable JournalFault → List ℕ → Result Beginning OpeningFault
@@ -87,14 +84,16 @@ abbrev pub OfOpened : Bool → List ℕ → (Result Durable JournalFault → Typ
 OfOpened true held P = P (opened held)
 OfOpened false held P = (printed : Result Durable JournalFault) × P printed
 
--- Whether the file has a ledger, so that the source is not asked.
-abbrev pub has_ledger : List (List ℕ) → Bool
-has_ledger [] = false
-has_ledger (frame ∷ frames) = true
-
+-- The file has a ledger, so that the source is not asked.
 abbrev pub HasLedger : Result Durable JournalFault → Type 0
 HasLedger (Err fault) = ⊥
-HasLedger (Ok d) = has_ledger d.log ≡ true
+HasLedger (Ok d) = has_ledger d ≡ true
+
+-- There is a ledger whose entries up to its base the file's snapshot stands for. Of a file without
+-- a snapshot that is so.
+abbrev pub OfLedger : Result Durable JournalFault → Type 0
+OfLedger (Err fault) = Unit {0}
+OfLedger (Ok d) = IsOfLedger d.snapshot
 
 -- ---- what a stop leaves of its file
 
@@ -116,7 +115,7 @@ abbrev pub KeepsOpening : Durable → List ℕ → Type 0
 KeepsOpening d image =
     HasGate journal_header image
     × ((opened image ≡ Ok d)
-    ⊎ ((has_ledger d.log ≡ false) × (s : Start Entry) × (opened image ≡ Ok (opened_state s d))))
+    ⊎ ((has_ledger d ≡ false) × (s : Start Entry) × (opened image ≡ Ok (opened_state s d))))
 
 -- An image that a stop might have left before, or one that has its closed gate and opens to what
 -- the bytes open to, or to that with an opening ledger.
@@ -145,10 +144,11 @@ IsAsked task s =
 -- Over a disk with these bytes and this history, and its count of faults.
 module _ {D : Type 0} (honest : Bool) (bytes : D → List ℕ) (past : D → List Step)
     (faults_of : D → ℕ) where
-  -- A node began so: of the rules it is this one, and an honest disk keeps that, whatever comes: a
-  -- stop leaves its bytes and no others.
+  -- A node began so: of the rules it is this one, with a ledger where there is one with its file's
+  -- snapshot; and an honest disk keeps that, whatever comes: a stop leaves its bytes and no others.
   pub record BeginsAs (b : Beginning) (d : Durable) (first : NodeSeen D NodeStore) : Type 0 where
     pub stands : StandsForFile d first.core b.node
+    pub ledger : IsOfLedger b.state.snapshot → IsOfLedger first.core.book.ledger.snapshot
     pub going : first.stopped ≡ None
     pub keeps : IsTrue honest → opened (bytes first.disk) ≡ Ok b.state
     pub at_rest : IsTrue honest → IsAtRest (bytes first.disk) (past first.disk)

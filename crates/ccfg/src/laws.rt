@@ -10,7 +10,7 @@ ghost use Rattle.gl_outside.specs.Disk.{Leaves, Step};
 ghost use Rattle.ccfg.specs.Commands.{Does};
 ghost use Rattle.ccfg.specs.Exits.{Exits};
 ghost use Rattle.ccfg.specs.ExpectedOutput.{Output};
-ghost use Rattle.ccfg.specs.KeyLife.{Follow, GoesOnFrom, HoldsKey, KeyRun, LeavesKey, steps_after, told_by_all};
+ghost use Rattle.ccfg.specs.KeyLife.{Follow, GoesOnFrom, HoldsKey, KeyRun, LeavesKey, MayServe, steps_after, told_by_all};
 ghost use Rattle.ccfg.specs.KeygenCommand.{KeygenDoes};
 ghost use Rattle.ccfg.specs.Run.{LinkRun, Run};
 ghost use Rattle.ccfg.specs.declared.ending.Ending.{Ending as Endings};
@@ -27,7 +27,8 @@ pub fn law_of_endings<S, D>()
 /// runs of the program that follow one another, each on what a stop may have left of the one
 /// before, whatever they were asked, what failed and where they stopped: a stop leaves a file of
 /// the key at every moment, each leaf by which a signature may have been told is above those
-/// before it, and it is spent in whatever a stop leaves then.
+/// before it, and it is spent in whatever a stop leaves then. A node is to serve from a file whose
+/// snapshot, if it has one, stands for a ledger.
 pub fn law_of_leaves<S, D, L>()
     ensures begins { (kind : KeyKind) (types : Types) (r : Run S D) → KeygenDoes kind types r Done
         → IsTrue r.disk.honest → OfBytes r.source.given (λ seed.
@@ -35,7 +36,7 @@ pub fn law_of_leaves<S, D, L>()
         (r.disk.past r.disk.after)) }
     ensures any_moment { (key : Key) (spent : ℕ) (past : List Step) (asked : Commands)
         (r : Run S D) (link : LinkRun L) (e : Endings) → LeavesKey key spent past
-        → GoesOnFrom past r.disk → Does asked r link e
+        → GoesOnFrom past r.disk → MayServe asked r → Does asked r link e
         → Leaves (HoldsKey key spent) (r.disk.past r.disk.before) (r.disk.past r.disk.after) }
     ensures once { (key : Key) (spent : ℕ) (past : List Step) (runs : List (KeyRun S D L))
         → LeavesKey key spent past → Follow past runs

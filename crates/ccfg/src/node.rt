@@ -11,7 +11,7 @@ ghost use Rattle.gl_journal.specs.Kept.{IsAtRest};
 ghost use Rattle.gl_journal.specs.Parts.{HasGate};
 ghost use Rattle.gl_journal.specs.declared.fault.JournalFault.{JournalFault};
 ghost use Rattle.gl_store_book.specs.Frames.{goes_on_ledger};
-ghost use Rattle.gl_store_book.specs.NodeFile.{opened};
+ghost use Rattle.gl_store_book.specs.NodeFile.{has_ledger, opened};
 ghost use Rattle.gl_store_book.specs.declared.node_file.fault.OpeningFault.{OpeningFault};
 ghost use Rattle.ccfg.specs.ExpectedOutput.{WritesOutput, output_of_answer, output_of_fault};
 ghost use Rattle.ccfg.specs.declared.fault.Fault.TheVariants as reported;
@@ -20,7 +20,7 @@ ghost use Rattle.ccfg.specs.NodeCommand.{NeedsNoSource};
 ghost use Rattle.ccfg.specs.SignCommand.{IsForeign};
 ghost use Rattle.ccfg.specs.Plans.{OpensAsBefore};
 ghost use Rattle.ccfg.specs.Run.{disk_run, link_run, sink_run, source_run};
-ghost use Rattle.ccfg.specs.Nodes.{BeginsAs, BeginsBy, Beginning, HasLedger, IsUnserved, KeepsOpening, MovesNode, NodeRuns, OfOpened, beginning, beginning_of, disk_after, has_ledger, reopened, served_line};
+ghost use Rattle.ccfg.specs.Nodes.{BeginsAs, BeginsBy, Beginning, HasLedger, IsUnserved, KeepsOpening, MovesNode, NodeRuns, OfLedger, OfOpened, beginning, beginning_of, disk_after, reopened, served_line};
 
 use crate::ending::Ending;
 use crate::fault::Fault;
@@ -88,7 +88,7 @@ fn begin_with<D: Disk + Drop>(
 ) -> Result<Replica<D, StoreBook>, (NodeError, D)>
     requires kept { IsTrue D.honest → opened (D.bytes file.disk) ≡ Ok file.state }
     requires at_rest { IsTrue D.honest → IsAtRest (D.bytes file.disk) (D.past file.disk) }
-    requires none { has_ledger file.state.log ≡ false }
+    requires none { has_ledger file.state ≡ false }
     ensures begins { IfOk result (λ replica. (b : Beginning)
         × (beginning file.state given.now ≡ Ok b)
         × BeginsAs D.honest D.bytes D.past D.faults b file.state replica) }
@@ -136,10 +136,10 @@ fn begin<S: Source, D: Disk + Drop>(
         × (D.past back ≡ D.past file.disk) }
     ensures going { IfOk result (λ replica. replica.stopped ≡ None) }
     ensures quiet { IfOk result (λ replica. D.faults replica.disk ≡ D.faults file.disk) }
-    ensures unread { has_ledger file.state.log ≡ true → source.new ≡ source.old }
+    ensures unread { has_ledger file.state ≡ true → source.new ≡ source.old }
     ensures source_quiet { ((back : D) → result ≢ Err (NodeError.SourceFailed, back)) →
         S.faults source.new ≡ S.faults source.old }
-    ensures ended { has_ledger file.state.log ≡ false →
+    ensures ended { has_ledger file.state ≡ false →
         IfOk result (λ replica. S.ended source.new ≡ true) }
     ensures ended_refused { (fault : OpeningFault) (back : D) →
         result ≡ Err (NodeError.Refused fault, back) → S.ended source.new ≡ true }
@@ -152,7 +152,7 @@ fn begin<S: Source, D: Disk + Drop>(
     ensures any_moment { IsTrue D.honest → Leaves (KeepsOpening file.state)
         (D.past file.disk) (D.past (disk_after result)) }
 {
-    if file.ledger_len() > 0 {
+    if file.has_ledger() {
         return reopen(file);
     }
     match read_to_end(alloc, source) {
@@ -323,6 +323,7 @@ pub fn run_node<S: Source, K: Sink, D: Disk + Drop, L: Link, O: Observer>(
     ensures unread { IsTrue D.honest → NeedsNoSource (opened (D.bytes disk)) →
         source.new ≡ source.old }
     ensures any_moment { IsTrue D.honest → HasGate journal_header (D.bytes disk) →
+        OfLedger (opened (D.bytes disk)) →
         MovesNode (D.bytes disk) (D.past disk) (D.past result.1) }
 {
     match open(alloc, source, disk) {

@@ -58,7 +58,8 @@ fn open_node(alloc: Global, bytes: &[u8]) -> Result<Replica<BytesDisk, StoreBook
     requires { (state : State) × OpensToNode bytes.now state }
     ensures opens { IfOk result (λ replica. (state : State) × OpensToNode bytes.now state
         × OpensToNode replica.disk.bytes state
-        × StandsForFile state replica.core (λ b. restarted_node b state)) }
+        × StandsForFile state replica.core (λ b below. restarted_node b below state)
+        × (replica.core.book.ledger.snapshot ≡ state.snapshot)) }
     ensures serves { IfOk result (λ replica. replica.stopped ≡ None) }
 {
     match open_file(alloc, bytes)?.reopen() {
@@ -110,7 +111,7 @@ impl FileNode {
         // It is the node that the file gives.
         ensures again { IfOk result (λ done. (state : State) →
             opened self.old.disk.bytes ≡ Ok state →
-            StandsForFile state self.new.core (λ b. restarted_node b state)) }
+            StandsForFile state self.new.core (λ b below. restarted_node b below state)) }
         ensures steps { IfOk result (λ done.
             Steps StandsOverFile (λ b x n. restart b n) self.old done self.new) }
         ensures refused { IfErr result (λ why.

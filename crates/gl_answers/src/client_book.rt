@@ -1,7 +1,8 @@
 //! What a store gives to a node that serves clients.
 
 ghost use Rattle.gl_base.specs.Answers.{Answers};
-ghost use Rattle.gl_answers.specs.Limits.{KeepsLimits};
+ghost use Rattle.gl_answers.specs.Limits.{FitsGiven};
+ghost use Rattle.gl_ledger.specs.declared.response.Response.{Response};
 ghost use Rattle.gl_answers.specs.Receipts.{receipts_of};
 ghost use Rattle.gl_receipt.specs.Made.{receipt_of};
 ghost use Rattle.gl_replication.specs.Standing.{At};
@@ -28,8 +29,8 @@ pub trait ClientBook: Book<
         ensures { At Self.stands self.now (λ b h.
             Answers (λ r. r) result (receipt_of (receipts_of h.base h.log commit) id)) };
 
-    /// What the ledger has and gives keeps the limits of the formats: a law of the store, of which
-    /// nothing runs.
+    /// What it gives to requests keeps the limit of answers: a law of the store, of which nothing
+    /// runs.
     fn keeps_limits(&self)
-        ensures { At Self.stands self.now (λ b h. KeepsLimits b h.log) };
+        ensures { (given : Response) → Self.fits given → FitsGiven given };
 }

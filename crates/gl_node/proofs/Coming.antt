@@ -1,12 +1,12 @@
 -- What an event comes to, by its exits.
-use Rattle.std.proofs.Common.{◌≡◌, inl, ℕ, Bool, List, Result, Ok, Err, OnOk, OnErr, IsTrue, refl, sym, ap, subst, ◌∙◌}
+use Rattle.std.proofs.Common.{◌≡◌, inl, ℕ, Bool, List, Result, Ok, Err, OnOk, IsTrue, sym, ap, subst, ◌∙◌}
 use Rattle.gl_entry.specs.declared.entry.Entry.{Entry}
 use Rattle.gl_rules.specs.Identity.{NodeId}
 use Rattle.gl_rules.specs.Book.{Book}
 use Rattle.gl_rules.specs.Node.{Node}
 use Rattle.gl_rules.specs.Outcome as outcomes
 use Rattle.gl_outside.specs.Disk.{Step, IsImage, Leaves}
-use Rattle.gl_outside.specs.Fault.{Counts, Rose}
+use Rattle.gl_outside.specs.Fault.{Counts}
 use Rattle.gl_outside.proofs.Moments.{started, stayed}
 use Rattle.gl_journal.specs.Durable.{Durable, LogRules, durable, journal_header, OpensToOneOf}
 use Rattle.gl_journal.specs.Kept.{IsKept}
@@ -24,6 +24,7 @@ use Rattle.gl_node.specs.Kept.{Kept, kept_after}
 use Rattle.gl_node.specs.Persistence.{HoldsAbove, IsFileOf, IsServing, SnapshotOf, StandsForSome, kept_of}
 use Rattle.gl_node.specs.declared.fault.NodeFault.{NodeFault}
 use Rattle.gl_node.specs.declared.fault.NodeFault.TheVariants.{Refused, DiskFault, Stopped}
+use Rattle.gl_node.proofs.Ending.{SameFile, ends_broken, of_ok}
 use Rattle.gl_node.proofs.Standings.{keeps_kept, kept_same, kept_still, still_keeps}
 use Rattle.gl_node.proofs.ElectionSteps.{as_it_was}
 
@@ -39,17 +40,10 @@ module _ {D S Q G R A F : Type 0} (stands : S → Book Entry Q G R A F → Holdi
   abbrev Serving : Core S Q G R A F → Journal D → Type 0
   Serving c j = IsServing stands held snapshot_of goes_on honest bytes past c j
 
-  -- a journal whose file is as it was
-  pub record SameFile (j j' : Journal D) : Type 0 where
-    pub settles : IsTrue honest → IsKept bytes past j → IsKept bytes past j'
-    pub reads : IsTrue honest → bytes j'.gated.disk ≡ bytes j.gated.disk
-    pub stops : IsTrue honest → past j'.gated.disk ≡ past j.gated.disk
-    pub counted : faults j'.gated.disk ≡ faults j.gated.disk
+  abbrev Same : Journal D → Journal D → Type 0
+  Same j j' = SameFile honest bytes past faults j j'
 
-  pub untouched : (j : Journal D) → SameFile j j
-  untouched j = record { settles = λ h k. k; reads = λ h. refl; stops = λ h. refl; counted = refl }
-
-  module _ {c : Core S Q G R A F} {j j' : Journal D} (here : Serving c j) (same : SameFile j j') where
+  module _ {c : Core S Q G R A F} {j j' : Journal D} (here : Serving c j) (same : Same j j') where
     -- each image that a stop leaves opens to what the file does
     pub opens_still : (d next : Durable) → IsTrue honest → durable goes_on (bytes j.gated.disk) ≡ Ok d → Leaves (OpensToOneOf goes_on d next) (past j.gated.disk) (past j'.gated.disk)
     opens_still d next h is =
@@ -59,7 +53,7 @@ module _ {D S Q G R A F : Type 0} (stands : S → Book Entry Q G R A F → Holdi
         stayed P (past j.gated.disk) (past j.gated.disk) (past j'.gated.disk)
         (started P (past j.gated.disk) (settled_image goes_on j.gated.place (bytes j.gated.disk) (past j.gated.disk) d next settled is)) (same.stops h)
 
-  module _ {c c' : Core S Q G R A F} {j j' : Journal D} (here : Serving c j) (same : SameFile j j') (above : HoldsAbove stands held snapshot_of c'.book) where
+  module _ {c c' : Core S Q G R A F} {j j' : Journal D} (here : Serving c j) (same : Same j j') (above : HoldsAbove stands held snapshot_of c'.book) where
     -- a node in which nothing of what the file keeps is another
     pub serving_still : {m : Node Entry} → StandsFor stands c' here.some.rules here.some.me m → IsAsKept here.some.node m → Serving c' j'
     serving_still {m} s k = record {
@@ -112,15 +106,9 @@ module _ {D S Q G R A F : Type 0} (stands : S → Book Entry Q G R A F → Holdi
           quiet = same.counted;
         }
 
-of_ok : {T E A : Type 0} (result : Result T E) (value : T) → result ≡ Ok value → OnOk result A → A
-of_ok {A = A} result value is here = let P : Result _ _ → Type 0 = λ r. OnOk r A in subst P is here
-
-of_err : {T E A : Type 0} (result : Result T E) (e : E) → result ≡ Err e → OnErr result A → A
-of_err {A = A} result e is here = let P : Result _ _ → Type 0 = λ r. OnErr r A in subst P is here
-
 -- an event whose changes are kept, or at which the disk fails
 module _ {D S Q G R A F T E : Type 0} (stands : S → Book Entry Q G R A F → Holding Entry → Type 0) (held : S → Kept) (snapshot_of : SnapshotOf) (goes_on : LogRules) (honest : Bool) (bytes : D → List ℕ) (past : D → List Step) (faults : D → ℕ)
-    {c c' : Core S Q G R A F} {j mid : Journal D} (j' : Journal D) (here : IsServing stands held snapshot_of goes_on honest bytes past c j) (same : SameFile stands held snapshot_of goes_on honest bytes past faults j mid) (above : HoldsAbove stands held snapshot_of c'.book)
+    {c c' : Core S Q G R A F} {j mid : Journal D} (j' : Journal D) (here : IsServing stands held snapshot_of goes_on honest bytes past c j) (same : SameFile honest bytes past faults j mid) (above : HoldsAbove stands held snapshot_of c'.book)
     (rule : Book Entry Q G R A F → NodeId → Node Entry → outcomes.Step Entry A F) (done : Done S Q G R A F) (steps : Steps stands rule c done c')
     (stays : KeepsBase here.some.node (rule here.some.rules here.some.me here.some.node).node)
     (Change : Durable → Type 0) (changes : (h : IsTrue honest) → Change (here.file h).state) (result : Result T E)
@@ -172,7 +160,7 @@ module _ {D S Q G R A F T E : Type 0} (stands : S → Book Entry Q G R A F → H
     some = some_then;
     above = above;
     any_moment = moments;
-    rose = subst (λ (k : ℕ). Rose k (faults j'.gated.disk)) same.counted (of_err result e err counts.failed);
+    rose = ends_broken honest bytes past faults j' same result counts e err;
   }
 
 -- at every moment of an event that is served
@@ -186,7 +174,7 @@ module _ {D S Q G R A F : Type 0} (stands : S → Book Entry Q G R A F → Holdi
   every_moment (Ok done) c' j' came h b x n s d is =
       subst (λ (next : Durable). Leaves (OpensToOneOf goes_on d next) (past j.gated.disk) (past j'.gated.disk)) (kept_same stands held snapshot_of d came.serving.above (came.steps b x n s).node) (came.any_moment h d is)
   every_moment (Err (Refused why)) c' j' came h b x n s d is =
-      let same : SameFile stands held snapshot_of goes_on honest bytes past faults j j' = record { settles = λ t k. (came.serving.file t).kept; reads = λ t. (came.same t).0; stops = λ t. (came.same t).1; counted = came.quiet } in
+      let same : SameFile honest bytes past faults j j' = record { settles = λ t k. (came.serving.file t).kept; reads = λ t. (came.same t).0; stops = λ t. (came.same t).1; counted = came.quiet } in
       opens_still stands held snapshot_of goes_on honest bytes past faults here same d (kept_after d (rule b x n).node) h is
   every_moment (Err DiskFault) c' j' came h b x n s d is =
       subst (λ (next : Durable). Leaves (OpensToOneOf goes_on d next) (past j.gated.disk) (past j'.gated.disk)) (kept_same stands held snapshot_of d came.above (came.turned b x n s)) (came.any_moment h d is)

@@ -1,9 +1,10 @@
 -- Lists of frames, one more at a time.
-use Rattle.std.proofs.Common.{All, IsTrue, ◌≡◌, ◌≤◌, ◌<◌, ℕ, zero, suc, ◌+◌, ◌*◌, Bool, true, false, List, [], ◌∷◌, ◌++◌, length, take, drop, get_or, map, slice_get, Option, Some, Vec, nat_le, ◌&&◌, if◌then◌else◌, refl, sym, ap, subst, ◌∙◌, arith, append_assoc, length-append, take-append-drop}
+use Rattle.std.proofs.Common.{All, IsTrue, ◌≡◌, ◌≤◌, ◌<◌, ℕ, zero, suc, ◌+◌, ◌-◌, ◌*◌, min, Bool, true, false, List, [], ◌∷◌, ◌++◌, length, take, drop, get_or, map, slice_get, Option, Some, Vec, nat_le, ◌&&◌, if◌then◌else◌, refl, sym, ap, subst, ◌∙◌, arith, append_assoc, length-append, length-drop, take-append-drop}
 use Rattle.std.specs.declared.alloc.Global.{Global}
+use Rattle.std.proofs.Math.Nat.{min_comm}
 use Rattle.std.proofs.lemmas.Bool.Decides.{nat_tests}
 use Rattle.std.proofs.lemmas.List.Elements.{All-head, All-tail}
-use Rattle.std.proofs.lemmas.List.{take_more, take_at, map-append}
+use Rattle.std.proofs.lemmas.List.{drop_min, take_all, take_min, take_more, take_at, map-append}
 use Rattle.gl_base.specs.LittleEndian.{little_endian}
 use Rattle.gl_base.proofs.LittleEndianLaws.{length-little_endian}
 use Rattle.gl_entry.specs.Entry.{body_bytes, body_limit, frame_bytes, is_entry}
@@ -99,6 +100,21 @@ frames_fit (e ∷ es) fit =
     let here : is_entry e ≡ true = All-head Fits e es fit in
     ap (λ (l : List (List ℕ)). frame_if_fits e ∷ l) (frames_fit es (All-tail Fits e es fit))
     ∙ ap {B = List (List ℕ)} (λ (t : Bool). (if t then frame_bytes e else []) ∷ map frame_bytes es) here
+
+-- the frame of one entry is small
+pub small_one : (frames : List (List ℕ)) (rest : List Entry) → frames ≡ map frame_if_fits rest → length rest ≤ 1 → appends_size frames ≤ 1048589
+small_one frames rest is few = omega (arith, ap appends_size is, small_frames rest, few)
+
+-- ---- the entry after so many
+
+module _ {A : Type 0} where
+  -- the first of what stands after so many, as slices
+  pub first_after : (i j count : ℕ) (l : List A) → i ≡ min (length l) count → j ≡ min (length (take (length l - i) (drop i l))) 1 → take j (take (length l - i) (drop i l)) ≡ take 1 (drop count l)
+  first_after i j count l at one =
+      let rest : take (length l - i) (drop i l) ≡ drop i l = take_all (length l - i) (drop i l) (omega (arith, length-drop i l)) in
+      let after : drop i l ≡ drop count l = ap (λ (k : ℕ). drop k l) (at ∙ min_comm (length l) count) ∙ drop_min count l in
+      let few : j ≡ min 1 (length (drop i l)) = omega (arith, one, ap length rest) in
+      ap (take j) rest ∙ ap (λ (k : ℕ). take k (drop i l)) few ∙ take_min 1 (drop i l) ∙ ap (take 1) after
 
 -- ---- parts of a ledger's frames
 

@@ -7,6 +7,8 @@ pub mod Framing
 pub mod Standings
 pub mod TakenEntries
 pub mod OneMoreEntry
+pub mod Ending
 pub mod Coming
+pub mod Served
 pub mod CoreOverFile
 pub mod SignedLeaves

@@ -1,23 +1,18 @@
 -- What one entry more makes of a node, and of what a file keeps of it.
-use Rattle.std.proofs.Common.{◌≡◌, ◌≤◌, ℕ, ◌+◌, ◌-◌, List, [], ◌∷◌, ◌++◌, length, take, drop, map, All, IsTrue, refl, sym, ap, ◌∙◌, arith, length-append, length-drop}
+use Rattle.std.proofs.Common.{◌≡◌, ◌≤◌, ℕ, ◌+◌, ◌-◌, List, [], ◌∷◌, ◌++◌, length, take, drop, refl, sym, ap, ◌∙◌, arith, length-append, length-drop}
 use Rattle.std.proofs.lemmas.List.{drop-drop, take_at, take_all, take-append-le}
-use Rattle.std.proofs.lemmas.List.Elements.{All-drop}
-use Rattle.gl_entry.specs.Entry.{frame_bytes, is_entry}
 use Rattle.gl_entry.specs.declared.entry.Entry.{Entry}
 use Rattle.gl_rules.specs.Identity.{NodeId}
 use Rattle.gl_rules.specs.Book.{Book}
 use Rattle.gl_rules.specs.Node.{Node}
 use Rattle.gl_rules.specs.Outcome.{Step}
 use Rattle.gl_replication.specs.Holding.{Holding}
-use Rattle.gl_replication.specs.Standing.{At}
 use Rattle.gl_replication.specs.Stands.{StandsFor, Stepped}
 use Rattle.gl_replication.specs.declared.done.Done.{Done}
 use Rattle.gl_replication.specs.declared.node.Core.{Core}
 use Rattle.gl_node.specs.Changes.{Extends, IsExtended, KeepsBase}
-use Rattle.gl_node.specs.Frames.{appends_size}
 use Rattle.gl_node.specs.Kept.{Kept}
 use Rattle.gl_node.specs.Persistence.{HoldsAbove, SnapshotOf}
-use Rattle.gl_node.proofs.Framing.{frames_fit, small_frames}
 use Rattle.gl_node.proofs.Standings.{held_of}
 use Rattle.gl_node.proofs.TakenEntries.{never_refused}
 
@@ -32,12 +27,6 @@ module _ (old new : List Entry) (more : IsMore old new) (len : ℕ) (at : len �
 
   pub more_prefix : take len new ≡ take len old
   more_prefix = ap (take len) more.is ∙ take_at old (more.entry ∷ []) len (sym at) ∙ sym (take_all len old (omega (arith, at)))
-
--- the frame of one entry is small
-small_one : (frames : List (List ℕ)) (rest : List Entry) → frames ≡ map frame_bytes rest → All (λ e. IsTrue (is_entry e)) rest → length rest ≤ 1 → appends_size frames ≤ 1048589
-small_one frames rest is fit few =
-    let size = ap appends_size (is ∙ sym (frames_fit rest fit)) in
-    omega (arith, size, small_frames rest, few)
 
 module _ {S Q G R A F : Type 0} (stands : S → Book Entry Q G R A F → Holding Entry → Type 0) (held : S → Kept) (snapshot_of : SnapshotOf) {c c' : Core S Q G R A F} {b : Book Entry Q G R A F} {x : NodeId} {n : Node Entry} (above : HoldsAbove stands held snapshot_of c.book) (s : StandsFor stands c b x n)
     (above' : HoldsAbove stands held snapshot_of c'.book) (step : Step Entry A F) (done : Done S Q G R A F) (stepped : Stepped stands b x step done c') (extends : Extends n step) where
@@ -62,13 +51,6 @@ module _ {S Q G R A F : Type 0} (stands : S → Book Entry Q G R A F → Holding
     below = ap (take n.base) step_more.is ∙ take-append-le n.base n.log (step_more.entry ∷ []) base_within;
   }
 
-  -- no ledger that it stands for then has a later base
-  pub more_above : (len : ℕ) → len ≡ length n.log → At stands c'.book (λ b h. h.base ≤ len)
-  more_above len is b' h' s' =
-      let theirs = (above' b' h' s').base in
-      let here = (held_of stands held snapshot_of above' stepped.node).base in
-      omega (arith, theirs, here, more_base.base, base_within, is)
-
   module _ (count : ℕ) (is : count ≡ length (held c.book).entries) where
     counted : count ≡ length n.log - n.base
     counted = is ∙ ap length (sym (held_of stands held snapshot_of above s).entries) ∙ length-drop n.base n.log
@@ -76,17 +58,13 @@ module _ {S Q G R A F : Type 0} (stands : S → Book Entry Q G R A F → Holding
     entries_are : (held c'.book).entries ≡ drop n.base step.node.log
     entries_are = sym (held_of stands held snapshot_of above' stepped.node).entries ∙ ap (λ (i : ℕ). drop i step.node.log) more_base.base
 
-    pub one_held : length (held c'.book).entries ≡ count + 1
+    one_held : length (held c'.book).entries ≡ count + 1
     one_held = let h = ap length entries_are in omega (arith, h, length-drop n.base step.node.log, one_longer n.log step.node.log step_more (length n.log) refl, counted, base_within)
 
     -- the entry after those that were held stands after the ledger
-    pub after_held : drop count (held c'.book).entries ≡ drop (length n.log) step.node.log
+    pub after_held : take 1 (drop count (held c'.book).entries) ≡ drop (length n.log) step.node.log
     after_held =
+        let entries = (held c'.book).entries in
         let at : n.base + count ≡ length n.log = omega (arith, counted, base_within) in
-        ap (drop count) entries_are ∙ drop-drop count n.base step.node.log ∙ ap (λ (i : ℕ). drop i step.node.log) at
-
-    -- its frame is small
-    pub small_after : (frames : List (List ℕ)) → frames ≡ map frame_bytes (drop count (held c'.book).entries) → All (λ e. IsTrue (is_entry e)) (held c'.book).entries → appends_size frames ≤ 1048589
-    small_after frames are fit =
-        small_one frames (drop count (held c'.book).entries) are (All-drop (λ (e : Entry). IsTrue (is_entry e)) count (held c'.book).entries fit)
-        (omega (arith, length-drop count (held c'.book).entries, one_held))
+        take_all 1 (drop count entries) (omega (arith, length-drop count entries, one_held))
+        ∙ ap (drop count) entries_are ∙ drop-drop count n.base step.node.log ∙ ap (λ (i : ℕ). drop i step.node.log) at

@@ -58,7 +58,7 @@ module _ {S Q G R A F : Type 0} (stands : S → Book Entry Q G R A F → Holding
     held_of {b = b} above s = above b _ s.ledger
 
     -- the leaves that are reserved fit their field
-    pub leaves_fit : {c : Core S Q G R A F} {b : Book Entry Q G R A F} {x : NodeId} {n : Node Entry} → StandsFor stands c b x n → At stands c.book (λ b h. b.leaves h.me < 2 ^ 32) → c.leaves.reserved < 2 ^ 32
+    leaves_fit : {c : Core S Q G R A F} {b : Book Entry Q G R A F} {x : NodeId} {n : Node Entry} → StandsFor stands c b x n → At stands c.book (λ b h. b.leaves h.me < 2 ^ 32) → c.leaves.reserved < 2 ^ 32
     leaves_fit {c} {b} {x} {n} s few = let h : b.leaves x < 2 ^ 32 = few b _ s.ledger in omega (arith, h, s.leaves, reserved_of s)
 
     -- the entries after a seqno that isn't below the base fit a ledger
@@ -105,8 +105,8 @@ module _ {S Q G R A F : Type 0} (stands : S → Book Entry Q G R A F → Holding
       pub to_change : (goes_on : LogRules) (d : Durable) (before : Before) (kept : ℕ) (frames : List (List ℕ)) → n.view ≤ m.view → n.reserved ≤ m.reserved → m.base ≡ n.base → n.base ≤ kept →
           kept ≤ length n.log → take kept m.log ≡ take kept n.log → frames ≡ map frame_bytes (drop kept m.log) → IsFileOf held d c → leaf_count d ≡ b.leaves x →
           before.view ≡ c.peer.view → before.vote ≡ c.peer.vote → before.len ≡ length n.log → before.leaves ≡ c.leaves →
-          EachGoesOn goes_on (held c'.book).snapshot (map frame_bytes (held c'.book).entries) → IsChange held goes_on d before kept frames c'
-      to_change goes_on d before kept frames rises more stays low within prefix after f leaves view vote len spent follow =
+          EachGoesOn goes_on (held c'.book).snapshot (map frame_bytes (held c'.book).entries) → At stands c'.book (λ b h. b.leaves h.me < 2 ^ 32) → IsChange held goes_on d before kept frames c'
+      to_change goes_on d before kept frames rises more stays low within prefix after f leaves view vote len spent follow few =
           let k : KeepsBase n m = record { base = stays; below = same_below n.base kept n.log m.log low prefix } in
           let reserved : before.leaves.reserved ≡ n.reserved = ap (λ l. l.reserved) spent ∙ reserved_of s in
           let base : d.base ≡ n.base = f.base ∙ sym (held_of above s).base in
@@ -130,6 +130,7 @@ module _ {S Q G R A F : Type 0} (stands : S → Book Entry Q G R A F → Holding
             follow = subst (λ (o : Option (List ℕ)). EachGoesOn goes_on o (map frame_bytes (held c'.book).entries)) (same_snapshot k ∙ sym f.snapshot) follow;
             more = omega (arith, reserved, more, reserved_of s');
             leaves = omega (arith, reserved_of s', s'.leaves, leaves);
+            few = leaves_fit s' few;
           }
 
       -- an event that may cut the log
@@ -141,13 +142,13 @@ module _ {S Q G R A F : Type 0} (stands : S → Book Entry Q G R A F → Holding
 
       pub turned_change : (goes_on : LogRules) (d : Durable) (before : Before) (kept : ℕ) (frames : List (List ℕ)) → IsTurned n m → IsFileOf held d c → leaf_count d ≡ b.leaves x →
           before.view ≡ c.peer.view → before.vote ≡ c.peer.vote → before.len ≡ length n.log → before.leaves ≡ c.leaves → kept ≡ length m.log → frames ≡ [] →
-          EachGoesOn goes_on (held c'.book).snapshot (map frame_bytes (held c'.book).entries) → IsChange held goes_on d before kept frames c'
-      turned_change goes_on d before kept frames t f leaves view vote len spent all none follow =
+          EachGoesOn goes_on (held c'.book).snapshot (map frame_bytes (held c'.book).entries) → At stands c'.book (λ b h. b.leaves h.me < 2 ^ 32) → IsChange held goes_on d before kept frames c'
+      turned_change goes_on d before kept frames t f leaves view vote len spent all none follow few =
           let within : length m.log ≤ length n.log = let e = ap length t.log in omega (arith, e, length-take (length m.log) n.log) in
           let cut : m.log ≡ take kept n.log = t.log ∙ ap (λ (k : ℕ). take k n.log) (sym all) in
           to_change goes_on d before kept frames t.view t.reserved t.base (omega (arith, all, base_within t.base)) (omega (arith, all, within))
           (take_all kept m.log (omega (arith, all)) ∙ cut) (none ∙ ap (map frame_bytes) (sym (drop_all kept m.log (omega (arith, all)))))
-          f leaves view vote len spent follow
+          f leaves view vote len spent follow few
 
     -- nothing to be kept is another
     pub kept_still : (d : Durable) (c : Core S Q G R A F) → IsFileOf held d c → kept_of held d c ≡ d

@@ -1,5 +1,5 @@
 -- The records of what an event changed.
-use Rattle.std.specs.Prelude.{◌≡◌, ◌≤◌, ℕ, ◌+◌, ◌-◌, List, [], ◌++◌, Some, Vec, vec_capacity, length, map, take}
+use Rattle.std.specs.Prelude.{◌≡◌, ◌≤◌, ◌<◌, ℕ, ◌+◌, ◌-◌, ◌^◌, List, [], ◌++◌, Some, Vec, vec_capacity, length, map, take}
 use Rattle.std.specs.declared.alloc.Global.{Global}
 use Rattle.gl_entry.specs.Entry.{frame_bytes}
 use Rattle.gl_journal.specs.Durable.{Durable, LogRules, fold_records, leaf_count}
@@ -26,7 +26,7 @@ pub record IsRoom (records : Vec Record Global) (count : ℕ) : Type 0 where
 
 -- A file with this durable state kept what was there before, and a core has now what is to be kept:
 -- no earlier view, the ledger cut to a seqno that isn't below the base, with the entries of these
--- frames after it, and no fewer reserved leaves.
+-- frames after it, and no fewer reserved leaves, whose number fits its field.
 pub record IsChange {S Q G R A F : Type 0} (held : S → Kept) (goes : LogRules) (d : Durable)
     (before : Before) (kept : ℕ) (frames : List (List ℕ)) (c : Core S Q G R A F) : Type 0 where
   pub view : d.view ≡ before.view
@@ -40,3 +40,4 @@ pub record IsChange {S Q G R A F : Type 0} (held : S → Kept) (goes : LogRules)
   pub follow : EachGoesOn goes d.snapshot (map frame_bytes (held c.book).entries)
   pub more : before.leaves.reserved ≤ c.leaves.reserved
   pub leaves : c.leaves.reserved ≤ leaf_count d
+  pub few : c.leaves.reserved < 2 ^ 32

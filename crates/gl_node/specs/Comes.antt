@@ -8,6 +8,7 @@ use Rattle.gl_rules.specs.Outcome as outcomes
 use Rattle.gl_outside.specs.Disk.{Step, IsImage, Leaves}
 use Rattle.gl_outside.specs.Fault.{Rose}
 use Rattle.gl_journal.specs.Durable.{Durable, LogRules, durable, OpensToOneOf}
+use Rattle.gl_journal.specs.Kept.{IsKept}
 use Rattle.gl_journal.specs.declared.journal.Journal.{Journal}
 use Rattle.gl_replication.specs.Holding.{Holding}
 use Rattle.gl_replication.specs.Stands.{KeepsAll, Refuses, Reports, StandsFor, Steps}
@@ -18,6 +19,27 @@ use Rattle.gl_node.specs.Kept.{Kept}
 use Rattle.gl_node.specs.Persistence.{HoldsAbove, IsServing, SnapshotOf, StandsForSome, kept_of}
 use Rattle.gl_node.specs.declared.fault.NodeFault.{NodeFault}
 use Rattle.gl_node.specs.declared.fault.NodeFault.TheVariants.{Refused, DiskFault, Stopped}
+
+-- How a journal's file ends an event, by what is answered, whatever the node stands for.
+module _ {D : Type 0} (honest : Bool) (bytes : D → List ℕ) (past : D → List Step)
+    (faults : D → ℕ) (j : Journal D) where
+  -- The file is settled, and no fault was counted.
+  pub record IsSettled (j' : Journal D) : Type 0 where
+    pub kept : IsTrue honest → IsKept bytes past j'
+    pub quiet : faults j'.gated.disk ≡ faults j.gated.disk
+
+  -- Where the event is refused it is as it was, too.
+  pub record IsUntouched (j' : Journal D) : Type 0 where
+    pub settled : IsSettled j'
+    pub same : IsTrue honest → (bytes j'.gated.disk ≡ bytes j.gated.disk)
+        × (past j'.gated.disk ≡ past j.gated.disk)
+
+  abbrev pub EndsWith : {S Q G R A F : Type 0} →
+      Result (Done S Q G R A F) (NodeFault S Q G R A F) → Journal D → Type 0
+  EndsWith (Ok done) j' = IsSettled j'
+  EndsWith (Err (Refused why)) j' = IsUntouched j'
+  EndsWith (Err DiskFault) j' = Rose (faults j.gated.disk) (faults j'.gated.disk)
+  EndsWith (Err (Stopped count)) j' = ⊥
 
 module _ {D S Q G R A F : Type 0} (stands : S → Book Entry Q G R A F → Holding Entry → Type 0)
     (held : S → Kept) (snapshot_of : SnapshotOf) (goes_on : LogRules) (honest : Bool)

@@ -76,6 +76,13 @@ module _ {D S Q G R A F : Type 0} (stands : S → Book Entry Q G R A F → Holdi
     pub file : IsTrue honest → IsKeptFile c j (some.rules.leaves some.me)
 
   -- So it is until the disk fails.
-  abbrev pub IsReplica : Core S Q G R A F → Journal D → Option ℕ → Type 0
-  IsReplica c j None = IsServing c j
-  IsReplica c j (Some count) = StandsForSome stands c
+  abbrev pub Serves : Core S Q G R A F → Journal D → Option ℕ → Type 0
+  Serves c j None = IsServing c j
+  Serves c j (Some count) = StandsForSome stands c
+
+  -- It serves where there is a ledger with its snapshot. Until the disk fails the journal's file is
+  -- settled in any case.
+  pub record IsReplica (has_ledger : Option (List ℕ) → Type 0) (base_snapshot : S → Option (List ℕ))
+      (c : Core S Q G R A F) (j : Journal D) (stopped : Option ℕ) : Type 0 where
+    pub settled : IsTrue honest → stopped ≡ None → IsKept bytes past j
+    pub serves : has_ledger (base_snapshot c.book) → Serves c j stopped

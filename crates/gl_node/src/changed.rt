@@ -27,7 +27,9 @@ pub(crate) fn held_count<B: KeptBook>(book: &B) -> u64
     ensures fit { All (λ e. IsTrue (is_entry e)) (B.held book.now).entries }
     ensures follow { EachGoesOn B.goes_on (B.held book.now).snapshot
         (map frame_bytes (B.held book.now).entries) }
+    ensures snapshot { (B.held book.now).snapshot ≡ B.base_snapshot book.now }
     ensures above { HoldsAbove B.stands B.held B.snapshot_of book.now }
+    ensures some { At B.stands book.now (λ b h. B.has_ledger (B.base_snapshot book.now)) }
     ensures leaves { At B.stands book.now (λ b h. b.leaves h.me < 2 ^ 32) }
 {
     book.ledger().len() as u64

@@ -1,18 +1,19 @@
 //! What an event makes of a node and of its file.
 
-ghost use Rattle.std.specs.Prelude.{◌≡◌, ◌≤◌, ℕ, length, true};
+ghost use Rattle.std.specs.Prelude.{◌≡◌, ◌≤◌, ℕ, IfOk, IsTrue, length, true};
 ghost use Rattle.gl_entry.specs.declared.entry.Entry.{Entry as Item};
+ghost use Rattle.gl_journal.specs.Kept.{IsKept};
 ghost use Rattle.gl_messages.specs.Message.{most_entries};
-ghost use Rattle.gl_replication.specs.Events.{has_few_entries, rule_of};
+ghost use Rattle.gl_replication.specs.Events.{AreFit, IsAccepted, has_few_entries, is_request, rule_of};
 ghost use Rattle.gl_replication.specs.Stands.{Reports};
 ghost use Rattle.gl_node.specs.Changes.{Extends, IsAsKept, IsTurned, TakesEntries};
-ghost use Rattle.gl_node.specs.Comes.{Comes};
+ghost use Rattle.gl_node.specs.Comes.{Comes, EndsWith};
 ghost use Rattle.gl_node.specs.Persistence.{IsServing};
 
 use crate::change::{Change, change_of};
 use crate::changed::Before;
 use crate::fault::NodeFault;
-use crate::frames::{frames_after, frames_of, room};
+use crate::frames::{frames_of, next_frame, room};
 use crate::kept_book::KeptBook;
 use crate::persist::keep;
 use crate::rollback::take_back;
@@ -29,11 +30,16 @@ fn pass<D: Disk, B: KeptBook>(
     journal: &Journal<D>,
     event: &Event<B>,
 ) -> Result<Done<B>, NodeFault<B>>
-    requires serving { IsServing B.stands B.held B.snapshot_of B.goes_on D.honest D.bytes D.past
-        core.old journal.now }
+    requires settled { IsTrue D.honest → IsKept D.bytes D.past journal.now }
     requires kept { Reports B.stands core.old (λ b x n. IsAsKept n (rule_of event.now b x n).node) }
-    ensures { Comes B.stands B.held B.snapshot_of B.goes_on D.honest D.bytes D.past
+    ensures comes { IsServing B.stands B.held B.snapshot_of B.goes_on D.honest D.bytes D.past
+        core.old journal.now → Comes B.stands B.held B.snapshot_of B.goes_on D.honest D.bytes D.past
         D.faults (rule_of event.now) core.old journal.now result core.new journal.now }
+    ensures file { EndsWith D.honest D.bytes D.past D.faults journal.now result journal.now }
+    ensures snapshot { B.base_snapshot core.new.book ≡ B.base_snapshot core.old.book }
+    ensures sent { IfOk result (λ done. AreFit done.sent) }
+    ensures accepted { IfOk result (λ done.
+        is_request event.now ≡ true → IsAccepted B.fits done.outcome) }
 {
     match step_core(core, event) {
         Err(why) => Err(NodeFault::Refused(why)),
@@ -47,12 +53,17 @@ fn turn<D: Disk, B: KeptBook>(
     journal: &mut Journal<D>,
     event: &Event<B>,
 ) -> Result<Done<B>, NodeFault<B>>
-    requires serving { IsServing B.stands B.held B.snapshot_of B.goes_on D.honest D.bytes D.past
-        core.old journal.old }
+    requires settled { IsTrue D.honest → IsKept D.bytes D.past journal.old }
     requires turned { Reports B.stands core.old
         (λ b x n. IsTurned n (rule_of event.now b x n).node) }
-    ensures { Comes B.stands B.held B.snapshot_of B.goes_on D.honest D.bytes D.past
+    ensures comes { IsServing B.stands B.held B.snapshot_of B.goes_on D.honest D.bytes D.past
+        core.old journal.old → Comes B.stands B.held B.snapshot_of B.goes_on D.honest D.bytes D.past
         D.faults (rule_of event.now) core.old journal.old result core.new journal.new }
+    ensures file { EndsWith D.honest D.bytes D.past D.faults journal.old result journal.new }
+    ensures snapshot { B.base_snapshot core.new.book ≡ B.base_snapshot core.old.book }
+    ensures sent { IfOk result (λ done. AreFit done.sent) }
+    ensures accepted { IfOk result (λ done.
+        is_request event.now ≡ true → IsAccepted B.fits done.outcome) }
 {
     let before = Before::of(core);
     let records = match room(core.alloc, journal, &[]) {
@@ -81,12 +92,17 @@ fn take<D: Disk, B: KeptBook>(
     entries: &[Entry],
 ) -> Result<Done<B>, NodeFault<B>>
     requires few { length entries.now ≤ most_entries }
-    requires serving { IsServing B.stands B.held B.snapshot_of B.goes_on D.honest D.bytes D.past
-        core.old journal.old }
+    requires settled { IsTrue D.honest → IsKept D.bytes D.past journal.old }
     requires takes { Reports B.stands core.old (λ b x n.
         TakesEntries b x n view prev entries.now (rule_of event.now b x n)) }
-    ensures { Comes B.stands B.held B.snapshot_of B.goes_on D.honest D.bytes D.past
+    ensures comes { IsServing B.stands B.held B.snapshot_of B.goes_on D.honest D.bytes D.past
+        core.old journal.old → Comes B.stands B.held B.snapshot_of B.goes_on D.honest D.bytes D.past
         D.faults (rule_of event.now) core.old journal.old result core.new journal.new }
+    ensures file { EndsWith D.honest D.bytes D.past D.faults journal.old result journal.new }
+    ensures snapshot { B.base_snapshot core.new.book ≡ B.base_snapshot core.old.book }
+    ensures sent { IfOk result (λ done. AreFit done.sent) }
+    ensures accepted { IfOk result (λ done.
+        is_request event.now ≡ true → IsAccepted B.fits done.outcome) }
 {
     let before = Before::of(core);
     let frames = match frames_of(core.alloc, entries) {
@@ -101,8 +117,8 @@ fn take<D: Disk, B: KeptBook>(
     match step_core(core, event) {
         Err(why) => Err(NodeFault::Refused(why)),
         Ok(done) => {
-            let count = core.book.ledger_len() - kept;
-            let new = &frames[frames.len() - count as usize..];
+            let count = core.book.ledger_len().saturating_sub(kept);
+            let new = &frames[frames.len().saturating_sub(count as usize)..];
             match keep(core, journal, &before, kept, new, records) {
                 Ok(()) => Ok(done),
                 Err(_) => Err(NodeFault::DiskFault),
@@ -118,18 +134,23 @@ fn make<D: Disk, B: KeptBook>(
     journal: &mut Journal<D>,
     event: &Event<B>,
 ) -> Result<Done<B>, NodeFault<B>>
-    requires serving { IsServing B.stands B.held B.snapshot_of B.goes_on D.honest D.bytes D.past
-        core.old journal.old }
+    requires settled { IsTrue D.honest → IsKept D.bytes D.past journal.old }
     requires extends { Reports B.stands core.old (λ b x n. Extends n (rule_of event.now b x n)) }
-    ensures { Comes B.stands B.held B.snapshot_of B.goes_on D.honest D.bytes D.past
+    ensures comes { IsServing B.stands B.held B.snapshot_of B.goes_on D.honest D.bytes D.past
+        core.old journal.old → Comes B.stands B.held B.snapshot_of B.goes_on D.honest D.bytes D.past
         D.faults (rule_of event.now) core.old journal.old result core.new journal.new }
+    ensures file { EndsWith D.honest D.bytes D.past D.faults journal.old result journal.new }
+    ensures snapshot { B.base_snapshot core.new.book ≡ B.base_snapshot core.old.book }
+    ensures sent { IfOk result (λ done. AreFit done.sent) }
+    ensures accepted { IfOk result (λ done.
+        is_request event.now ≡ true → IsAccepted B.fits done.outcome) }
 {
     let before = Before::of(core);
     let done = match step_core(core, event) {
         Err(why) => return Err(NodeFault::Refused(why)),
         Ok(done) => done,
     };
-    let frames = match frames_after(core.alloc, &core.book, before.count) {
+    let frames = match next_frame(core.alloc, &core.book, before.count) {
         Err(_) => {
             take_back(core, &before);
             return Err(NodeFault::Refused(Refusal::NoMemory));
@@ -156,10 +177,15 @@ pub(crate) fn dispatch<D: Disk, B: KeptBook>(
     event: &Event<B>,
 ) -> Result<Done<B>, NodeFault<B>>
     requires few { has_few_entries event.now ≡ true }
-    requires serving { IsServing B.stands B.held B.snapshot_of B.goes_on D.honest D.bytes D.past
-        core.old journal.old }
-    ensures { Comes B.stands B.held B.snapshot_of B.goes_on D.honest D.bytes D.past
+    requires settled { IsTrue D.honest → IsKept D.bytes D.past journal.old }
+    ensures comes { IsServing B.stands B.held B.snapshot_of B.goes_on D.honest D.bytes D.past
+        core.old journal.old → Comes B.stands B.held B.snapshot_of B.goes_on D.honest D.bytes D.past
         D.faults (rule_of event.now) core.old journal.old result core.new journal.new }
+    ensures file { EndsWith D.honest D.bytes D.past D.faults journal.old result journal.new }
+    ensures snapshot { B.base_snapshot core.new.book ≡ B.base_snapshot core.old.book }
+    ensures sent { IfOk result (λ done. AreFit done.sent) }
+    ensures accepted { IfOk result (λ done.
+        is_request event.now ≡ true → IsAccepted B.fits done.outcome) }
 {
     let me = core.book.me();
     match change_of(event, &me) {

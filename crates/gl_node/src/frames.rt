@@ -1,6 +1,6 @@
 //! Frames of entries, and the memory for a batch of them.
 
-ghost use Rattle.std.specs.Prelude.{◌≡◌, ◌≤◌, ◌<◌, ◌+◌, ◌^◌, IsTrue, IfOk, OnOk, drop, length, map};
+ghost use Rattle.std.specs.Prelude.{◌≡◌, ◌≤◌, ◌<◌, ◌+◌, ◌^◌, IsTrue, IfOk, OnOk, drop, length, map, take};
 ghost use Rattle.gl_entry.specs.Entry.{frame_bytes};
 ghost use Rattle.gl_journal.specs.Kept.{IsKept, HasBatchRoom};
 ghost use Rattle.gl_journal.specs.Parts.{items_of};
@@ -34,18 +34,20 @@ pub(crate) fn frames_of(alloc: Global, entries: &[Entry]) -> Result<Vec<Vec<u8>>
     Ok(frames)
 }
 
-/// The frames of the entries above a ledger's base, after so many of them.
-pub(crate) fn frames_after<B: KeptBook>(
+/// The frame of the first entry above a ledger's base after so many of them, if there is one.
+pub(crate) fn next_frame<B: KeptBook>(
     alloc: Global,
     book: &B,
     count: u64,
 ) -> Result<Vec<Vec<u8>>, AllocError>
-    requires { count ≤ length (B.held book.now).entries }
-    ensures { IfOk result (λ frames.
-        items_of frames.items ≡ map frame_bytes (drop count (B.held book.now).entries)) }
+    ensures frames { IfOk result (λ frames. items_of frames.items
+        ≡ map frame_bytes (take 1 (drop count (B.held book.now).entries))) }
+    ensures small { IfOk result (λ frames.
+        64 + appends_size (items_of frames.items) < 2 ^ 32) }
 {
     let entries = book.ledger();
-    frames_of(alloc, &entries[count as usize..])
+    let new = &entries[entries.len().min(count as usize)..];
+    frames_of(alloc, &new[..new.len().min(1)])
 }
 
 /// How many bytes the records of frames have.

@@ -1,6 +1,6 @@
 //! What a file can keep of a store's ledger.
 
-ghost use Rattle.std.specs.Prelude.{◌≡◌, ◌<◌, ◌^◌, All, IsTrue, map};
+ghost use Rattle.std.specs.Prelude.{◌≡◌, ◌<◌, ◌^◌, ℕ, All, IsTrue, List, Option, map};
 ghost use Rattle.gl_entry.specs.Entry.{frame_bytes, is_entry};
 ghost use Rattle.gl_journal.specs.Durable.{LogRules};
 ghost use Rattle.gl_replication.specs.Standing.{At};
@@ -20,6 +20,10 @@ pub trait KeptBook: Book {
     // The snapshot that stands for the entries of a ledger up to a base.
     ghost snapshot_of: { SnapshotOf };
 
+    // There is a ledger whose entries up to its base this snapshot stands for; without one the base
+    // is 0. Whoever opens a file can't tell.
+    ghost has_ledger: { Option (List ℕ) → Type 0 };
+
     // What a file of it lets in.
     ghost goes_on: { LogRules };
 
@@ -29,7 +33,9 @@ pub trait KeptBook: Book {
         // Each is one that a ledger may hold, so that its frame can be written.
         ensures fit { All (λ e. IsTrue (is_entry e)) result.now }
         ensures follow { EachGoesOn goes_on (held self.now).snapshot (map frame_bytes result.now) }
-        // Of each ledger for which it stands, that is held.
+        ensures snapshot { (held self.now).snapshot ≡ Self.base_snapshot self.now }
+        // Of each ledger for which it stands, that is held, and there is such a ledger.
         ensures above { HoldsAbove Self.stands held snapshot_of self.now }
+        ensures some { At Self.stands self.now (λ b h. has_ledger (Self.base_snapshot self.now)) }
         ensures leaves { At Self.stands self.now (λ b h. b.leaves h.me < 2 ^ 32) };
 }

@@ -112,16 +112,15 @@ fn put_appends<'a>(records: &mut Vec<Record<'a>>, frames: &'a [Vec<u8>])
 
 /// How many leaves are reserved, where one more is.
 fn put_signer(records: &mut Vec<Record<'_>>, before: u64, reserved: u64)
-    requires room { vec_len records.old < vec_capacity records.old }
-    requires small { reserved < 2 ^ 32 }
+    requires { vec_len records.old < vec_capacity records.old }
     ensures folds { (goes_on : LogRules) (d m : State) → Folds goes_on records.old.items d m →
-        m.reserved ≡ before → before ≤ reserved → reserved ≤ leaf_count m →
+        m.reserved ≡ before → before ≤ reserved → reserved ≤ leaf_count m → reserved < 2 ^ 32 →
         Folds goes_on records.new.items d (record m { reserved = reserved }) }
     ensures size { records_size records.new.items ≤ records_size records.old.items + 9 }
 {
     if reserved != before {
         records.push_reserved(Record::Signer {
-            reserved: reserved as u32,
+            reserved: reserved.min(u64::from(u32::MAX)) as u32,
         });
     }
 }
@@ -166,7 +165,6 @@ pub(crate) fn keep<'a, D: Disk, B: KeptBook>(
     records: Vec<Record<'a>>,
 ) -> Result<(), DiskFailed>
     requires open { IsTrue D.honest → IsKept D.bytes D.past journal.old }
-    requires leaves { core.now.leaves.reserved < 2 ^ 32 }
     requires small { 64 + appends_size (items_of frames.now) < 2 ^ 32 }
     requires room { HasBatchRoom D.room_end D.room_calls journal.old
         (64 + appends_size (items_of frames.now)) }

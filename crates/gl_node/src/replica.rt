@@ -4,13 +4,14 @@ ghost use Rattle.std.specs.Prelude.{◌≡◌, ◌↔◌, ℕ, List, true, None,
 ghost use Rattle.gl_outside.specs.Disk.{IsImage, Leaves};
 ghost use Rattle.gl_outside.specs.Fault.{Rose};
 ghost use Rattle.gl_journal.specs.Durable.{Durable as State, durable, OpensToOneOf};
-ghost use Rattle.gl_journal.specs.Kept.{IsAtRest};
-ghost use Rattle.gl_replication.specs.Events.{has_few_entries, rule_of};
+ghost use Rattle.gl_journal.specs.Kept.{IsAtRest, IsKept};
+ghost use Rattle.gl_replication.specs.Events.{AreFit, IsAccepted, has_few_entries, is_request, rule_of};
 ghost use Rattle.gl_replication.specs.Stands.{KeepsAll, Refuses, Reports, Steps};
 ghost use Rattle.gl_node.specs.Answers.{OnRefusal, stopped_by, stopped_count};
 ghost use Rattle.gl_node.specs.Kept.{kept_after};
 ghost use Rattle.gl_node.specs.Persistence.{IsServing, OpensToCore, StandsForSome};
 
+use crate::changed::held_count;
 use crate::dispatch::dispatch;
 use crate::fault::NodeFault;
 use crate::kept_book::KeptBook;
@@ -20,8 +21,8 @@ use gl_replication::{Core, Done, Event};
 use std::marker::Model;
 
 /// A node that serves from a file. It is seen as the node, the disk with the file on it, and
-/// whether the disk failed. The node stands for one of the rules, and until the disk fails its file
-/// keeps it.
+/// whether the disk failed. Where there is a ledger with its snapshot the node stands for one of
+/// the rules, and until the disk fails its file keeps it.
 #[derive(Drop)]
 pub struct Replica<D: Disk, B: KeptBook> {
     core: Core<B>,
@@ -42,7 +43,7 @@ impl<D: Disk, B: KeptBook> Model for Replica<D, B> {
     } };
 
     ghost invariant = { λ r. IsReplica B.stands B.held B.snapshot_of B.goes_on D.honest D.bytes
-        D.past r.core r.journal r.stopped };
+        D.past B.has_ledger B.base_snapshot r.core r.journal r.stopped };
 }
 
 /// When a node has stopped, by what an event came to and by how often the disk has failed.
@@ -56,9 +57,11 @@ fn stopped_by<B: KeptBook>(came: &Result<Done<B>, NodeFault<B>>, faults: u64) ->
 }
 
 impl<D: Disk, B: KeptBook> Replica<D, B> {
-    /// A node whose file keeps it.
+    /// A node whose file keeps it, where there is a ledger with its snapshot.
     pub fn new(core: Core<B>, journal: Journal<D>) -> Self
-        requires { IsServing B.stands B.held B.snapshot_of B.goes_on D.honest D.bytes D.past
+        requires settled { IsTrue D.honest → IsKept D.bytes D.past journal }
+        requires serving { B.has_ledger (B.base_snapshot core.book) →
+            IsServing B.stands B.held B.snapshot_of B.goes_on D.honest D.bytes D.past
             core journal }
         ensures { result
             ≡ record { core = core; disk = journal.gated.disk; stopped = None } }
@@ -110,12 +113,19 @@ impl<D: Disk, B: KeptBook> Replica<D, B> {
         ensures no_disk_fault { (result ≡ Err NodeFault.DiskFault → ⊥) →
             (D.faults self.new.disk ≡ D.faults self.old.disk)
             × (self.new.stopped ≡ self.old.stopped) }
+        // Whatever it stands for, what is sent and answered keeps the limits of the formats, and
+        // the snapshot at its base stays.
+        ensures sent { IfOk result (λ done. AreFit done.sent) }
+        ensures accepted { IfOk result (λ done.
+            is_request event ≡ true → IsAccepted B.fits done.outcome) }
+        ensures snapshot { B.base_snapshot self.new.core.book ≡ B.base_snapshot self.old.core.book }
         ensures stopped { stopped_count result ≡ self.old.stopped }
         ensures still { IsSome self.old.stopped → self.new ≡ self.old }
     {
         if let Some(count) = self.stopped {
             return Err(NodeFault::Stopped { count });
         }
+        let _count = held_count(&self.core.book);
         let came = dispatch(&mut self.core, &mut self.journal, &event);
         self.stopped = stopped_by(&came, self.journal.gated.disk.faults());
         came
@@ -124,8 +134,9 @@ impl<D: Disk, B: KeptBook> Replica<D, B> {
     /// The node, to be asked what it knows.
     pub fn core(&self) -> &Core<B>
         ensures core { result.now ≡ self.now.core }
-        // It stands for a node of some rules.
-        ensures some { StandsForSome B.stands self.now.core }
+        // It stands for a node of some rules, where there is a ledger with its snapshot.
+        ensures some { B.has_ledger (B.base_snapshot self.now.core.book) →
+            StandsForSome B.stands self.now.core }
     {
         &self.core
     }
@@ -134,6 +145,7 @@ impl<D: Disk, B: KeptBook> Replica<D, B> {
     pub fn disk(&self) -> &D
         ensures disk { result.now ≡ self.now.disk }
         ensures keeps { IsTrue D.honest → self.now.stopped ≡ None →
+            B.has_ledger (B.base_snapshot self.now.core.book) →
             OpensToCore B.held B.goes_on (D.bytes self.now.disk) self.now.core }
         ensures at_rest { IsTrue D.honest → self.now.stopped ≡ None →
             IsAtRest (D.bytes self.now.disk) (D.past self.now.disk) }

@@ -1,8 +1,8 @@
 //! What an event makes of a node alone.
 
-ghost use Rattle.std.specs.Prelude.{◌≤◌, ◌<◌, ◌^◌, All, IsTrue, IfOk, IfErr, OnErr, map, ℕ};
+ghost use Rattle.std.specs.Prelude.{◌≡◌, ◌≤◌, ◌<◌, ◌^◌, All, IsTrue, IfOk, IfErr, OnErr, map, true, ℕ};
 ghost use Rattle.gl_entry.specs.Entry.{frame_bytes, is_entry};
-ghost use Rattle.gl_replication.specs.Events.{rule_of};
+ghost use Rattle.gl_replication.specs.Events.{AreFit, IsAccepted, is_request, rule_of};
 ghost use Rattle.gl_election.specs.Bridge.{message_to};
 ghost use Rattle.gl_election.specs.Elections.{position};
 ghost use Rattle.gl_rules.specs.Identity.{NodeId as Id};
@@ -54,6 +54,10 @@ pub(crate) fn step_core<B: KeptBook>(
         (map frame_bytes (B.held core.new.book).entries) }
     ensures above { HoldsAbove B.stands B.held B.snapshot_of core.new.book }
     ensures leaves { At B.stands core.new.book (λ b h. b.leaves h.me < 2 ^ 32) }
+    ensures snapshot { B.base_snapshot core.new.book ≡ B.base_snapshot core.old.book }
+    ensures sent { IfOk result (λ done. AreFit done.sent) }
+    ensures accepted { IfOk result (λ done.
+        is_request event.now ≡ true → IsAccepted B.fits done.outcome) }
 {
     let came = core.step(event);
     let _count = held_count(&core.book);

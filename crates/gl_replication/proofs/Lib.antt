@@ -2,6 +2,7 @@ pub mod Rows
 pub mod Cuts
 pub mod Commits
 pub mod PeerSteps
+pub mod Sending
 pub mod Prefixes
 pub mod Tails
 pub mod Merging

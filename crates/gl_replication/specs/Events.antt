@@ -1,5 +1,5 @@
 -- The rule of an event, at the node where it happens.
-use Rattle.std.specs.Prelude.{Bool, true, false, length, nat_le, if◌then◌else◌}
+use Rattle.std.specs.Prelude.{All, IsTrue, List, Bool, true, false, length, nat_le, if◌then◌else◌}
 use Rattle.gl_entry.specs.declared.entry.Entry.{Entry}
 use Rattle.gl_rules.specs.Identity.{NodeId, same}
 use Rattle.gl_rules.specs.Book.{Book}
@@ -9,11 +9,13 @@ use Rattle.gl_rules.specs.Elections.{timeout, step_down}
 use Rattle.gl_rules.specs.Replication.{replicate, advance}
 use Rattle.gl_rules.specs.Requests.{submit, govern, reserve, sign, evidence}
 use Rattle.gl_rules.specs.World.{on_message}
-use Rattle.gl_messages.specs.Message.{most_entries}
+use Rattle.gl_messages.specs.Message.{body_fits, most_entries}
 use Rattle.gl_messages.specs.declared.message.Body.{Body}
 use Rattle.gl_messages.specs.declared.message.Body.TheVariants.{RequestVote, VoteReply, Append, AppendReply, ProposeVote}
 use Rattle.gl_messages.specs.declared.message.Message.{Message}
 use Rattle.gl_election.specs.Bridge.{message_to, seen_body}
+use Rattle.gl_replication.specs.declared.done.Outcome.{Outcome}
+use Rattle.gl_replication.specs.declared.done.Outcome.TheVariants as outcomes
 use Rattle.gl_replication.specs.declared.event.Event.{Event}
 use Rattle.gl_replication.specs.declared.event.Event.TheVariants as events
 
@@ -25,7 +27,22 @@ brings_few (Append prev commit es) = nat_le (length es) most_entries
 brings_few (AppendReply ok seqno) = true
 brings_few ProposeVote = true
 
+-- Each of these messages keeps the limits of messages.
+abbrev pub AreFit : List Message → Type 0
+AreFit sent = All (λ m. IsTrue (body_fits m.body)) sent
+
+-- The outcome of an accepted request, of whose answer this holds.
+abbrev pub IsAccepted : {A : Type 0} → (A → Type 0) → Outcome A → Type 0
+IsAccepted P (outcomes.Accepted view seqno answer) = P answer
+IsAccepted P other = ⊥
+
 module _ {S Q G R A F : Type 0} where
+  -- The event is a request of an application or of governance.
+  abbrev pub is_request : Event S Q G R A F → Bool
+  is_request (events.Submit request) = true
+  is_request (events.Govern request) = true
+  is_request other = false
+
   -- A message of the event brings so many entries at most as one message carries.
   abbrev pub has_few_entries : Event S Q G R A F → Bool
   has_few_entries events.Timeout = true

@@ -10,6 +10,7 @@ ghost use Rattle.gl_rules.specs.Steps.{cut_to, one_more_cut, enter_view, update_
 ghost use Rattle.gl_rules.specs.Replication.{checked_append, commit_after, become_follower, merge_if_matching, matching_prefix_len, highest_possible_match, merge_entries};
 ghost use Rattle.gl_election.specs.Elections.{position};
 ghost use Rattle.gl_election.specs.Bridge.{message_to, seen_message};
+ghost use Rattle.gl_replication.specs.Events.{AreFit};
 ghost use Rattle.gl_replication.specs.Standing.{At};
 ghost use Rattle.gl_replication.specs.Stands.{Grows, KeepsAll, Refuses, Replies, Reports, Steps, Turns};
 ghost use Rattle.gl_replication.specs.declared.done.Outcome.TheVariants as answers;
@@ -43,7 +44,8 @@ impl<B: Book> Core<B> {
 
     /// A view that rises: no vote, no leader, and the log cut to its last signature.
     fn enter_view(&mut self, view: u32)
-        ensures { Turns B.stands (λ b n. enter_view b view n) self.old self.new }
+        ensures turns { Turns B.stands (λ b n. enter_view b view n) self.old self.new }
+        ensures snapshot { B.base_snapshot self.new.book ≡ B.base_snapshot self.old.book }
     {
         let seqno = self.book.last_signature().seqno;
         self.cut_to(seqno);
@@ -54,13 +56,14 @@ impl<B: Book> Core<B> {
 impl<B: Book> Core<B> {
     /// A view begins: no vote, no leader. The log stays.
     pub(crate) fn begin_view(&mut self, view: u32)
-        ensures { Turns B.stands (λ b n. record n {
+        ensures turns { Turns B.stands (λ b n. record n {
           view = view;
           vote = None;
           role = Follower;
           leader = None;
           votes = [];
         }) self.old self.new }
+        ensures snapshot { B.base_snapshot self.new.book ≡ B.base_snapshot self.old.book }
     {
         self.peer.view = view;
         self.peer.vote = None;
@@ -126,6 +129,7 @@ impl<B: Book> Core<B> {
         ensures value { IfOk result (λ sent. Reports B.stands self.now (λ b x n. map seen_message
             sent ≡ append_reply_to x to view ok seqno)) }
         ensures few { IfOk result (λ sent. length sent ≤ 1) }
+        ensures fits { IfOk result (λ sent. AreFit sent) }
     {
         let mut sent = Vec::new(self.alloc);
         sent.push(Message {
@@ -139,7 +143,8 @@ impl<B: Book> Core<B> {
 
     /// The view rises to this one, if it is lower.
     pub(crate) fn update_view(&mut self, view: u32)
-        ensures { Turns B.stands (λ b n. update_view b view n) self.old self.new }
+        ensures turns { Turns B.stands (λ b n. update_view b view n) self.old self.new }
+        ensures snapshot { B.base_snapshot self.new.book ≡ B.base_snapshot self.old.book }
     {
         if view > self.peer.view {
             self.enter_view(view);
@@ -148,8 +153,9 @@ impl<B: Book> Core<B> {
 
     /// Follows the leader y of a view that is not below its own.
     fn become_follower(&mut self, y: NodeId, view: u32)
-        ensures { Turns B.stands (λ b n. become_follower b y (update_view b view n)) self.old
+        ensures turns { Turns B.stands (λ b n. become_follower b y (update_view b view n)) self.old
             self.new }
+        ensures snapshot { B.base_snapshot self.new.book ≡ B.base_snapshot self.old.book }
     {
         self.update_view(view);
         self.peer.role = Role::Follower;
@@ -159,8 +165,9 @@ impl<B: Book> Core<B> {
     /// Commit rises with what is known after a message with this commit, whose last entry has this
     /// seqno.
     fn commit_after(&mut self, theirs: u64, seqno: u64)
-        ensures { Turns B.stands (λ b n. record n { commit = commit_after b theirs seqno n })
+        ensures turns { Turns B.stands (λ b n. record n { commit = commit_after b theirs seqno n })
             self.old self.new }
+        ensures snapshot { B.base_snapshot self.new.book ≡ B.base_snapshot self.old.book }
     {
         let signed = self.book.signature_upto(theirs.min(seqno));
         self.commit = self.commit.max(self.book.known_commit()).max(signed);
@@ -168,10 +175,11 @@ impl<B: Book> Core<B> {
 
     /// A cut counts, where one was made.
     fn count_cut(&mut self, made: bool)
-        ensures { Turns B.stands (λ b n. record n {
+        ensures turns { Turns B.stands (λ b n. record n {
           cuts = if made then one_more_cut n.cuts else
               n.cuts;
         }) self.old self.new }
+        ensures snapshot { B.base_snapshot self.new.book ≡ B.base_snapshot self.old.book }
     {
         if made {
             self.cuts = self.cuts.saturating_add(1);
@@ -180,7 +188,8 @@ impl<B: Book> Core<B> {
 
     /// A follower of y in a view that is not below its own.
     fn follow_in_view(&mut self, y: NodeId, view: u32)
-        ensures { Turns B.stands (λ b n. following y view n) self.old self.new }
+        ensures turns { Turns B.stands (λ b n. following y view n) self.old self.new }
+        ensures snapshot { B.base_snapshot self.new.book ≡ B.base_snapshot self.old.book }
     {
         if view > self.peer.view {
             self.peer.view = view;
@@ -199,6 +208,7 @@ impl<B: Book> Core<B> {
         ensures refused { IfErr result (λ e. Reports B.stands self.old (λ b x n. Fails e
             (checked_append b n.base (take seqno n.log) entries.now))) }
         ensures err { OnErr result (KeepsAll B.stands self.old self.new) }
+        ensures snapshot { B.base_snapshot self.new.book ≡ B.base_snapshot self.old.book }
     {
         self.book.replace_tail(seqno, entries)
     }
@@ -223,6 +233,7 @@ impl<B: Book> Core<B> {
         ensures refused { IfErr result (λ e. Reports B.stands self.old (λ b x n. Fails e
             (checked_append b n.base (take seqno n.log) entries.now))) }
         ensures err { OnErr result (KeepsAll B.stands self.old self.new) }
+        ensures snapshot { B.base_snapshot self.new.book ≡ B.base_snapshot self.old.book }
     {
         let before = self.book.ledger_len();
         match self.append_after(seqno, entries) {
@@ -249,8 +260,9 @@ impl<B: Book> Core<B> {
     /// The entries up to a seqno are accept_entries: commit rises, and the leader is answered. The
     /// answer was made before.
     fn accept_entries(&mut self, seqno: u64, theirs: u64, sent: Sequence<Message>) -> Done<B>
-        ensures { Replies B.stands (λ b x n. record n { commit = commit_after b theirs seqno n })
+        ensures replies { Replies B.stands (λ b x n. record n { commit = commit_after b theirs seqno n })
             sent self.old result self.new }
+        ensures snapshot { B.base_snapshot self.new.book ≡ B.base_snapshot self.old.book }
     {
         self.commit_after(theirs, seqno);
         Done {
@@ -283,6 +295,8 @@ impl<B: Book> Core<B> {
             why) }
         ensures err { OnErr result (KeepsAll B.stands self.old self.new) }
         ensures few { IfOk result (λ done. length done.sent ≤ 1) }
+        ensures fits { IfOk result (λ done. AreFit done.sent) }
+        ensures snapshot { B.base_snapshot self.new.book ≡ B.base_snapshot self.old.book }
     {
         let end = prev + entries.len() as u64;
         let sent = match self.append_reply(y, view, true, end) {
@@ -323,6 +337,8 @@ impl<B: Book> Core<B> {
             self.old why) }
         ensures err { OnErr result (KeepsAll B.stands self.old self.new) }
         ensures few { IfOk result (λ done. length done.sent ≤ 1) }
+        ensures fits { IfOk result (λ done. AreFit done.sent) }
+        ensures snapshot { B.base_snapshot self.new.book ≡ B.base_snapshot self.old.book }
     {
         let len = self.len_in_view(view);
         if self.is_matching(len, prev) {
@@ -416,6 +432,8 @@ impl<B: Book> Core<B> {
             (message_to x from view (Append (position prev) entries.now commit)) n) self.old why) }
         ensures err { OnErr result (KeepsAll B.stands self.old self.new) }
         ensures few { IfOk result (λ done. length done.sent ≤ 1) }
+        ensures fits { IfOk result (λ done. AreFit done.sent) }
+        ensures snapshot { B.base_snapshot self.new.book ≡ B.base_snapshot self.old.book }
     {
         if view < self.peer.view {
             return match self.append_reply(from, self.peer.view, false, 0) {

@@ -1,12 +1,13 @@
 //! What a store gives to the rules of consensus.
 
-ghost use Rattle.std.specs.Prelude.{◌≡◌, ◌≤◌, ◌<◌, ◌^◌, ◌++◌, ◌∷◌, [], ℕ, List, Ok, Err, max, take, drop, length, AllPairs, IfOk, IfErr, OnOk, OnErr};
+ghost use Rattle.std.specs.Prelude.{◌≡◌, ◌≤◌, ◌<◌, ◌^◌, ◌++◌, ◌∷◌, [], ℕ, List, Ok, Err, max, take, drop, length, Option, AllPairs, IsTrue, IfOk, IfErr, OnOk, OnErr};
 ghost use Rattle.gl_base.specs.Answers.{Fails};
 ghost use Rattle.gl_entry.specs.declared.entry.Entry.{Entry as Item};
 ghost use Rattle.gl_rules.specs.Book.{Book as Rules};
 ghost use Rattle.gl_rules.specs.Log.{entry_at, greatest_recorded, is_signature_in, last_signature, last_signature_position, view_at};
 ghost use Rattle.gl_rules.specs.Configuration.{active, configurations_above};
 ghost use Rattle.gl_rules.specs.Replication.{batch, checked_append, greatest_evidence, is_reached};
+ghost use Rattle.gl_messages.specs.Message.{entries_fit};
 ghost use Rattle.gl_config.specs.Active.{above, active_of, sets_of};
 ghost use Rattle.gl_election.specs.Bridge.{tx_id};
 ghost use Rattle.gl_replication.specs.Holding.{Holding};
@@ -36,6 +37,13 @@ pub trait Book: Drop {
     // Under these rules it stands for what is held, a ledger whole from seqno 1.
     ghost stands: { Self → Rules Item Self.Request Self.Gov Self.Reads Self.Response Self.Refused →
         Holding Item → Type 0 };
+
+    // An answer of this kind can be sent: it keeps the limits of the formats.
+    ghost fits: { Self.Response → Type 0 };
+
+    // The bytes of the snapshot's body that stands for the entries up to its base, where it has
+    // one. No event but a snapshot that is installed changes them, whatever it stands for.
+    ghost base_snapshot: { Self → Option (List ℕ) };
 
     /// With whose key it signs.
     fn me(&self) -> NodeId
@@ -130,8 +138,9 @@ pub trait Book: Drop {
 
     /// The entries after a seqno, not below the base: as many as one message carries.
     fn batch(&self, after: u64) -> Result<Vec<Entry>, AllocError>
-        ensures { IfOk result (λ entries. At stands self.now (λ b h. h.base ≤ after →
-            entries.items ≡ batch b (drop after h.log))) };
+        ensures value { IfOk result (λ entries. At stands self.now (λ b h. h.base ≤ after →
+            entries.items ≡ batch b (drop after h.log))) }
+        ensures fits { IfOk result (λ entries. IsTrue (entries_fit entries.items)) };
 
     /// Takes an entry for a request, and tells its view and the answer.
     fn execute(
@@ -143,7 +152,9 @@ pub trait Book: Drop {
             (b.execute h.log view request.now ≡ Ok (e, r.1)) × (r.0 ≡ b.view_of e))) }
         ensures refused { IfErr result (λ e. At stands self.old (λ b h.
             Fails e (b.execute h.log view request.now))) }
-        ensures err { OnErr result (Stays stands self.old self.new) };
+        ensures fits { IfOk result (λ r. fits r.1) }
+        ensures err { OnErr result (Stays stands self.old self.new) }
+        ensures snapshot { base_snapshot self.new ≡ base_snapshot self.old };
 
     /// Takes an entry for a request of governance, and tells its view and the answer.
     fn govern(
@@ -155,7 +166,9 @@ pub trait Book: Drop {
             (b.govern h.log view request.now ≡ Ok (e, r.1)) × (r.0 ≡ b.view_of e))) }
         ensures refused { IfErr result (λ e. At stands self.old (λ b h.
             Fails e (b.govern h.log view request.now))) }
-        ensures err { OnErr result (Stays stands self.old self.new) };
+        ensures fits { IfOk result (λ r. fits r.1) }
+        ensures err { OnErr result (Stays stands self.old self.new) }
+        ensures snapshot { base_snapshot self.new ≡ base_snapshot self.old };
 
     /// Takes a signature by this leaf that records this commit, not below the base, and tells its
     /// view.
@@ -166,7 +179,8 @@ pub trait Book: Drop {
             (b.sign h.me leaf h.log view commit ≡ Ok e) × (r ≡ b.view_of e))) }
         ensures refused { IfErr result (λ e. At stands self.old (λ b h.
             Fails e (b.sign h.me leaf h.log view commit))) }
-        ensures err { OnErr result (Stays stands self.old self.new) };
+        ensures err { OnErr result (Stays stands self.old self.new) }
+        ensures snapshot { base_snapshot self.new ≡ base_snapshot self.old };
 
     /// Takes an evidence entry, the digest of a snapshot of the ledger so far, and tells its view.
     fn evidence(&mut self, view: u32) -> Result<u32, OrNoMemory<Self::Refused>>
@@ -174,7 +188,8 @@ pub trait Book: Drop {
             (b.evidence h.log view ≡ Ok e) × (r ≡ b.view_of e))) }
         ensures refused { IfErr result (λ e. At stands self.old (λ b h.
             Fails e (b.evidence h.log view))) }
-        ensures err { OnErr result (Stays stands self.old self.new) };
+        ensures err { OnErr result (Stays stands self.old self.new) }
+        ensures snapshot { base_snapshot self.new ≡ base_snapshot self.old };
 
     /// Cuts the ledger to a seqno, not below the base, and appends these entries, each of which has
     /// to follow: on a copy, all or nothing.
@@ -188,10 +203,12 @@ pub trait Book: Drop {
             checked_append b h.base (take seqno h.log) entries.now ≡ Ok log)) }
         ensures refused { IfErr result (λ e. At stands self.old (λ b h.
             Fails e (checked_append b h.base (take seqno h.log) entries.now))) }
-        ensures err { OnErr result (Stays stands self.old self.new) };
+        ensures err { OnErr result (Stays stands self.old self.new) }
+        ensures snapshot { base_snapshot self.new ≡ base_snapshot self.old };
 
     /// Cuts the ledger to a seqno, not below the base.
     fn cut(&mut self, to: u64)
         requires base { At stands self.old (λ b h. h.base ≤ to) }
-        ensures { Becomes stands self.old self.new (λ b h log. log ≡ take to h.log) };
+        ensures becomes { Becomes stands self.old self.new (λ b h log. log ≡ take to h.log) }
+        ensures snapshot { base_snapshot self.new ≡ base_snapshot self.old };
 }

@@ -1,8 +1,9 @@
 //! A message to a node.
 
-ghost use Rattle.std.specs.Prelude.{IfOk, IfErr, OnErr};
+ghost use Rattle.std.specs.Prelude.{◌≡◌, IfOk, IfErr, OnErr};
 ghost use Rattle.gl_rules.specs.World.{on_message};
 ghost use Rattle.gl_election.specs.Bridge.{message_to, seen_body};
+ghost use Rattle.gl_replication.specs.Events.{AreFit};
 ghost use Rattle.gl_replication.specs.Stands.{KeepsAll, Refuses, Steps};
 
 use crate::book::Book;
@@ -20,6 +21,8 @@ impl<B: Book> Core<B> {
             (message_to x message.now.from message.now.view (seen_body message.now.body)) n)
             self.old why) }
         ensures err { OnErr result (KeepsAll B.stands self.old self.new) }
+        ensures fits { IfOk result (λ done. AreFit done.sent) }
+        ensures snapshot { B.base_snapshot self.new.book ≡ B.base_snapshot self.old.book }
     {
         let from = message.from;
         let view = message.view;

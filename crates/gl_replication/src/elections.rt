@@ -12,6 +12,7 @@ ghost use Rattle.gl_election.specs.Elections.{position};
 ghost use Rattle.gl_config.specs.Active.{sets_of};
 ghost use Rattle.gl_election.specs.Bridge.{begin_leading, message_to};
 ghost use Rattle.gl_election.specs.declared.elected.ElectionOutcome.TheVariants.{BecameLeader};
+ghost use Rattle.gl_replication.specs.Events.{AreFit};
 ghost use Rattle.gl_replication.specs.Standing.{At};
 ghost use Rattle.gl_replication.specs.Stands.{KeepsAll, Refuses, Reports, Settles, Steps, Turns, refusal_of};
 
@@ -61,7 +62,8 @@ impl<B: Book> Core<B> {
     /// Cuts the log to a seqno, which is counted where an entry is taken away.
     pub(crate) fn cut_to(&mut self, seqno: u64)
         requires base { At B.stands self.old.book (λ b h. h.base ≤ seqno) }
-        ensures { Turns B.stands (λ b n. cut_to seqno n) self.old self.new }
+        ensures turns { Turns B.stands (λ b n. cut_to seqno n) self.old self.new }
+        ensures snapshot { B.base_snapshot self.new.book ≡ B.base_snapshot self.old.book }
     {
         if seqno < self.book.ledger_len() {
             self.cuts = self.cuts.saturating_add(1);
@@ -70,7 +72,8 @@ impl<B: Book> Core<B> {
     }
 
     fn cut_to_last_signature(&mut self)
-        ensures { Turns B.stands (λ b n. cut_to (last_signature b n.log) n) self.old self.new }
+        ensures turns { Turns B.stands (λ b n. cut_to (last_signature b n.log) n) self.old self.new }
+        ensures snapshot { B.base_snapshot self.new.book ≡ B.base_snapshot self.old.book }
     {
         let last = self.book.last_signature();
         self.cut_to(last.seqno);
@@ -78,7 +81,8 @@ impl<B: Book> Core<B> {
 
     /// A new leader begins after its log, and knows nothing of the others.
     fn begin_leading(&mut self)
-        ensures { Turns B.stands (λ b n. begin_leading b BecameLeader n) self.old self.new }
+        ensures turns { Turns B.stands (λ b n. begin_leading b BecameLeader n) self.old self.new }
+        ensures snapshot { B.base_snapshot self.new.book ≡ B.base_snapshot self.old.book }
     {
         self.start = self.book.ledger_len() + 1;
         self.matched.clear();
@@ -102,7 +106,9 @@ impl<B: Book> Core<B> {
 
     /// What the peer's turn means for the rest of the node.
     fn settle(&mut self, elected: Elected) -> Done<B>
-        ensures { Settles B.stands elected self.old result self.new }
+        ensures settles { Settles B.stands elected self.old result self.new }
+        ensures sent { result.sent ≡ elected.sent }
+        ensures snapshot { B.base_snapshot self.new.book ≡ B.base_snapshot self.old.book }
     {
         if elected.rose {
             self.cut_to_last_signature();
@@ -130,6 +136,8 @@ impl<B: Book> Core<B> {
         ensures refused { IfErr result (λ why.
             Refuses B.stands (λ b x n. timeout b x n) self.old why) }
         ensures err { OnErr result (KeepsAll B.stands self.old self.new) }
+        ensures fits { IfOk result (λ done. AreFit done.sent) }
+        ensures snapshot { B.base_snapshot self.new.book ≡ B.base_snapshot self.old.book }
     {
         let last = self.book.last_signature();
         match self.others(last.seqno) {
@@ -158,6 +166,8 @@ impl<B: Book> Core<B> {
         ensures refused { IfErr result (λ why. Refuses B.stands (λ b x n.
             on_message b (message_to x from view (RequestVote (position theirs))) n) self.old why) }
         ensures err { OnErr result (KeepsAll B.stands self.old self.new) }
+        ensures fits { IfOk result (λ done. AreFit done.sent) }
+        ensures snapshot { B.base_snapshot self.new.book ≡ B.base_snapshot self.old.book }
     {
         let me = self.book.me();
         let signed = self.book.last_signature();
@@ -183,6 +193,8 @@ impl<B: Book> Core<B> {
         ensures refused { IfErr result (λ why. Refuses B.stands (λ b x n.
             on_message b (message_to x from view (VoteReply granted)) n) self.old why) }
         ensures err { OnErr result (KeepsAll B.stands self.old self.new) }
+        ensures fits { IfOk result (λ done. AreFit done.sent) }
+        ensures snapshot { B.base_snapshot self.new.book ≡ B.base_snapshot self.old.book }
     {
         let me = self.book.me();
         let len = self.book.ledger_len();
@@ -203,6 +215,8 @@ impl<B: Book> Core<B> {
         ensures refused { IfErr result (λ why. Refuses B.stands (λ b x n.
             on_message b (message_to x from view ProposeVote) n) self.old why) }
         ensures err { OnErr result (KeepsAll B.stands self.old self.new) }
+        ensures fits { IfOk result (λ done. AreFit done.sent) }
+        ensures snapshot { B.base_snapshot self.new.book ≡ B.base_snapshot self.old.book }
     {
         let last = self.book.last_signature();
         match self.others(last.seqno) {
@@ -228,6 +242,8 @@ impl<B: Book> Core<B> {
         ensures refused { IfErr result (λ why.
             Refuses B.stands (λ b x n. step_down b x to n) self.old why) }
         ensures err { OnErr result (KeepsAll B.stands self.old self.new) }
+        ensures fits { IfOk result (λ done. AreFit done.sent) }
+        ensures snapshot { B.base_snapshot self.new.book ≡ B.base_snapshot self.old.book }
     {
         let me = self.book.me();
         let len = self.book.ledger_len();

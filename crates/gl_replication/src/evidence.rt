@@ -23,6 +23,7 @@ impl<B: Book> Core<B> {
             append_evidence b n (b.evidence n.log n.view)) self.old why) }
         ensures err { OnErr result (KeepsAll B.stands self.old self.new) }
         ensures quiet { IfOk result (λ done. done.sent ≡ []) }
+        ensures snapshot { B.base_snapshot self.new.book ≡ B.base_snapshot self.old.book }
     {
         let seqno = self.book.ledger_len() + 1;
         match self.book.evidence(self.peer.view) {
@@ -43,6 +44,7 @@ impl<B: Book> Core<B> {
             Refuses B.stands (λ b x n. evidence b n) self.old why) }
         ensures err { OnErr result (KeepsAll B.stands self.old self.new) }
         ensures quiet { IfOk result (λ done. done.sent ≡ []) }
+        ensures snapshot { B.base_snapshot self.new.book ≡ B.base_snapshot self.old.book }
     {
         match self.peer.role {
             Role::Leader => self.append_evidence(),

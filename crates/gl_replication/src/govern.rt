@@ -4,6 +4,7 @@ ghost use Rattle.std.specs.Prelude.{◌≡◌, [], length, IfOk, IfErr, OnOk, On
 ghost use Rattle.gl_rules.specs.Configuration.{configurations_above};
 ghost use Rattle.gl_rules.specs.Requests.{append_result, govern, govern_as_leader, if_markable, if_removal_committed, reserve, unless_mark_refused};
 ghost use Rattle.gl_config.specs.Active.{above};
+ghost use Rattle.gl_replication.specs.Events.{IsAccepted};
 ghost use Rattle.gl_replication.specs.Stands.{IsNoMemory, KeepsAll, Passes, Refuses, Reports, Steps, Stops};
 
 use crate::book::Book;
@@ -88,6 +89,8 @@ impl<B: Book> Core<B> {
             append_result b n (b.govern n.log n.view request.now)) self.old why) }
         ensures err { OnErr result (KeepsAll B.stands self.old self.new) }
         ensures quiet { IfOk result (λ done. done.sent ≡ []) }
+        ensures accepted { IfOk result (λ done. IsAccepted B.fits done.outcome) }
+        ensures snapshot { B.base_snapshot self.new.book ≡ B.base_snapshot self.old.book }
     {
         let seqno = self.book.ledger_len() + 1;
         match self.book.govern(self.peer.view, request) {
@@ -107,6 +110,8 @@ impl<B: Book> Core<B> {
             Refuses B.stands (λ b x n. govern_as_leader b request.now n) self.old why) }
         ensures err { OnErr result (KeepsAll B.stands self.old self.new) }
         ensures quiet { IfOk result (λ done. done.sent ≡ []) }
+        ensures accepted { IfOk result (λ done. IsAccepted B.fits done.outcome) }
+        ensures snapshot { B.base_snapshot self.new.book ≡ B.base_snapshot self.old.book }
     {
         if self.pending() >= PENDING_LIMIT {
             return Err(Refusal::TooManyPending(PENDING_LIMIT));
@@ -127,6 +132,8 @@ impl<B: Book> Core<B> {
             Refuses B.stands (λ b x n. govern b request.now n) self.old why) }
         ensures err { OnErr result (KeepsAll B.stands self.old self.new) }
         ensures quiet { IfOk result (λ done. done.sent ≡ []) }
+        ensures accepted { IfOk result (λ done. IsAccepted B.fits done.outcome) }
+        ensures snapshot { B.base_snapshot self.new.book ≡ B.base_snapshot self.old.book }
     {
         match self.peer.role {
             Role::Leader => self.govern_as_leader(request),
@@ -144,6 +151,7 @@ impl<B: Book> Core<B> {
         ensures err { OnErr result (KeepsAll B.stands self.old self.new) }
         ensures quiet { IfOk result (λ done. done.sent ≡ []) }
         ensures ample { IfErr result (λ why. IsNoMemory why → ⊥) }
+        ensures snapshot { B.base_snapshot self.new.book ≡ B.base_snapshot self.old.book }
     {
         if self.leaves.reserved >= self.book.leaves() {
             return Err(Refusal::KeyExhausted(self.leaves.reserved));

@@ -3,6 +3,7 @@
 ghost use Rattle.std.specs.Prelude.{◌≡◌, ◌≤◌, ◌<◌, ◌==◌, [], false, length, IfOk, IfErr, IfSome, OnErr};
 ghost use Rattle.gl_rules.specs.Requests.{execute_request, sign, sign_as_leader, submit};
 ghost use Rattle.gl_rules.specs.Replication.{advance, commit_to, greatest_to_commit, may_commit, restart};
+ghost use Rattle.gl_replication.specs.Events.{IsAccepted};
 ghost use Rattle.gl_replication.specs.Standing.{At};
 ghost use Rattle.gl_replication.specs.Stands.{IsNoMemory, KeepsAll, Refuses, Reports, Steps};
 
@@ -43,6 +44,8 @@ impl<B: Book> Core<B> {
             Refuses B.stands (λ b x n. execute_request b request.now n) self.old why) }
         ensures err { OnErr result (KeepsAll B.stands self.old self.new) }
         ensures quiet { IfOk result (λ done. done.sent ≡ []) }
+        ensures accepted { IfOk result (λ done. IsAccepted B.fits done.outcome) }
+        ensures snapshot { B.base_snapshot self.new.book ≡ B.base_snapshot self.old.book }
     {
         let seqno = self.book.ledger_len() + 1;
         match self.book.execute(self.peer.view, request) {
@@ -63,6 +66,8 @@ impl<B: Book> Core<B> {
             Refuses B.stands (λ b x n. submit b request.now n) self.old why) }
         ensures err { OnErr result (KeepsAll B.stands self.old self.new) }
         ensures quiet { IfOk result (λ done. done.sent ≡ []) }
+        ensures accepted { IfOk result (λ done. IsAccepted B.fits done.outcome) }
+        ensures snapshot { B.base_snapshot self.new.book ≡ B.base_snapshot self.old.book }
     {
         match self.peer.role {
             Role::Leader => self.execute_request(request),
@@ -97,6 +102,7 @@ impl<B: Book> Core<B> {
             Refuses B.stands (λ b x n. sign_as_leader b x n) self.old why) }
         ensures err { OnErr result (KeepsAll B.stands self.old self.new) }
         ensures quiet { IfOk result (λ done. done.sent ≡ []) }
+        ensures snapshot { B.base_snapshot self.new.book ≡ B.base_snapshot self.old.book }
     {
         if self.is_exhausted() {
             return Err(Refusal::NotReserved(self.leaves.reserved));
@@ -127,6 +133,7 @@ impl<B: Book> Core<B> {
             Refuses B.stands (λ b x n. sign b x n) self.old why) }
         ensures err { OnErr result (KeepsAll B.stands self.old self.new) }
         ensures quiet { IfOk result (λ done. done.sent ≡ []) }
+        ensures snapshot { B.base_snapshot self.new.book ≡ B.base_snapshot self.old.book }
     {
         match self.peer.role {
             Role::Leader => self.sign_as_leader(),
@@ -141,6 +148,7 @@ impl<B: Book> Core<B> {
             Steps B.stands (λ b x n. restart b n) self.old done self.new) }
         ensures always { IfErr result (λ why. ⊥) }
         ensures quiet { IfOk result (λ done. done.sent ≡ []) }
+        ensures snapshot { B.base_snapshot self.new.book ≡ B.base_snapshot self.old.book }
     {
         self.commit = self.book.known_commit();
         self.peer.role = Role::Follower;
@@ -195,6 +203,7 @@ impl<B: Book> Core<B> {
         ensures steps { Steps B.stands (λ b x n.
             commit_to b n (greatest_to_commit b x n (length n.log))) self.old result self.new }
         ensures quiet { result.sent ≡ [] }
+        ensures snapshot { B.base_snapshot self.new.book ≡ B.base_snapshot self.old.book }
     {
         match self.greatest_to_commit() {
             None => Done {
@@ -220,6 +229,7 @@ impl<B: Book> Core<B> {
         ensures err { OnErr result (KeepsAll B.stands self.old self.new) }
         ensures quiet { IfOk result (λ done. done.sent ≡ []) }
         ensures ample { IfErr result (λ why. IsNoMemory why → ⊥) }
+        ensures snapshot { B.base_snapshot self.new.book ≡ B.base_snapshot self.old.book }
     {
         match self.peer.role {
             Role::Leader => Ok(self.advance_as_leader()),

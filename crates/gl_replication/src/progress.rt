@@ -81,6 +81,7 @@ impl<B: Book> Core<B> {
         ensures ok { OnOk result (Turns B.stands (λ b n. update_match b y seqno n) self.old
             self.new) }
         ensures err { OnErr result (KeepsAll B.stands self.old self.new) }
+        ensures snapshot { B.base_snapshot self.new.book ≡ B.base_snapshot self.old.book }
     {
         self.matched.reserve(1)?;
         self.next.reserve(1)?;
@@ -96,6 +97,7 @@ impl<B: Book> Core<B> {
         ensures ok { OnOk result (Turns B.stands (λ b n. lower_next b y seqno n) self.old
             self.new) }
         ensures err { OnErr result (KeepsAll B.stands self.old self.new) }
+        ensures snapshot { B.base_snapshot self.new.book ≡ B.base_snapshot self.old.book }
     {
         self.next.reserve(1)?;
         let least = held(&self.matched, &y).saturating_add(1);
@@ -112,6 +114,7 @@ impl<B: Book> Core<B> {
         ensures refused { IfErr result (λ why. IsNoMemory why) }
         ensures err { OnErr result (KeepsAll B.stands self.old self.new) }
         ensures quiet { IfOk result (λ done. done.sent ≡ []) }
+        ensures snapshot { B.base_snapshot self.new.book ≡ B.base_snapshot self.old.book }
     {
         if !ok {
             return match self.lower_next(y, seqno) {
@@ -142,6 +145,7 @@ impl<B: Book> Core<B> {
         ensures refused { IfErr result (λ why. IsNoMemory why) }
         ensures err { OnErr result (KeepsAll B.stands self.old self.new) }
         ensures quiet { IfOk result (λ done. done.sent ≡ []) }
+        ensures snapshot { B.base_snapshot self.new.book ≡ B.base_snapshot self.old.book }
     {
         if view > self.peer.view {
             self.update_view(view);

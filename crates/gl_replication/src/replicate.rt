@@ -3,6 +3,7 @@
 ghost use Rattle.std.specs.Prelude.{◌≡◌, ◌≤◌, ◌-◌, ◌&&◌, ◌||◌, not, length, if◌then◌else◌, IfOk, IfErr, OnErr};
 ghost use Rattle.gl_rules.specs.Outcome.{refuse, NotPeer};
 ghost use Rattle.gl_rules.specs.Replication.{is_peer, is_reached, next_of, replicate, send_append};
+ghost use Rattle.gl_replication.specs.Events.{AreFit};
 ghost use Rattle.gl_replication.specs.Stands.{KeepsAll, Refuses, Reports, Steps};
 
 use crate::book::Book;
@@ -52,6 +53,8 @@ impl<B: Book> Core<B> {
             Refuses B.stands (λ b x n. send_append b x to after n) self.old why) }
         ensures err { OnErr result (KeepsAll B.stands self.old self.new) }
         ensures few { IfOk result (λ done. length done.sent ≤ 1) }
+        ensures fits { IfOk result (λ done. AreFit done.sent) }
+        ensures snapshot { B.base_snapshot self.new.book ≡ B.base_snapshot self.old.book }
     {
         let base = self.book.base();
         if after < base {
@@ -92,6 +95,8 @@ impl<B: Book> Core<B> {
             then send_append b x to (next_of b n to - 1) n else refuse n NotPeer) self.old why) }
         ensures err { OnErr result (KeepsAll B.stands self.old self.new) }
         ensures few { IfOk result (λ done. length done.sent ≤ 1) }
+        ensures fits { IfOk result (λ done. AreFit done.sent) }
+        ensures snapshot { B.base_snapshot self.new.book ≡ B.base_snapshot self.old.book }
     {
         if !self.is_peer(&to) {
             return Err(Refusal::NotPeer);
@@ -108,6 +113,8 @@ impl<B: Book> Core<B> {
             Refuses B.stands (λ b x n. replicate b x to n) self.old why) }
         ensures err { OnErr result (KeepsAll B.stands self.old self.new) }
         ensures few { IfOk result (λ done. length done.sent ≤ 1) }
+        ensures fits { IfOk result (λ done. AreFit done.sent) }
+        ensures snapshot { B.base_snapshot self.new.book ≡ B.base_snapshot self.old.book }
     {
         match self.peer.role {
             Role::Leader => self.replicate_as_leader(to),

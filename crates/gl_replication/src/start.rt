@@ -27,7 +27,7 @@ impl<B: Book> Core<B> {
         commit: u64,
         spent: u64,
     ) -> Core<B>
-        ensures { At B.stands book (λ b h. h.base ≤ commit → spent ≤ b.leaves h.me →
+        ensures stands { At B.stands book (λ b h. h.base ≤ commit → spent ≤ b.leaves h.me →
             StandsFor B.stands result b h.me (record joiner {
               view = view;
               vote = vote;
@@ -37,6 +37,7 @@ impl<B: Book> Core<B> {
               reserved = spent;
               used = spent;
             })) }
+        ensures book { result.book ≡ book }
     {
         Core {
             alloc,
@@ -106,9 +107,10 @@ impl<B: Book> Core<B> {
         vote: Option<NodeId>,
         reserved: u64,
     ) -> Core<B>
-        ensures { At B.stands book (λ b h. (n : Node Item) → held_by h.me n ≡ h →
+        ensures stands { At B.stands book (λ b h. (n : Node Item) → held_by h.me n ≡ h →
             n.view ≡ view → n.vote ≡ vote → n.reserved ≡ reserved → reserved ≤ b.leaves h.me →
             StandsFor B.stands result b h.me (restart b n).node) }
+        ensures book { result.book ≡ book }
     {
         let commit = book.known_commit();
         Core::follower(alloc, book, view, vote, commit, reserved)

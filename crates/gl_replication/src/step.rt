@@ -1,7 +1,7 @@
 //! What an event makes of a node.
 
 ghost use Rattle.std.specs.Prelude.{◌≡◌, true, IfOk, IfErr, OnErr};
-ghost use Rattle.gl_replication.specs.Events.{delivery, rule_of, takes_memory};
+ghost use Rattle.gl_replication.specs.Events.{AreFit, delivery, is_request, IsAccepted, rule_of, takes_memory};
 ghost use Rattle.gl_replication.specs.Stands.{IsNoMemory, KeepsAll, Refuses, Steps};
 
 use crate::book::Book;
@@ -19,6 +19,8 @@ impl<B: Book> Core<B> {
         ensures refused { IfErr result (λ why.
             Refuses B.stands (delivery message.now) self.old why) }
         ensures err { OnErr result (KeepsAll B.stands self.old self.new) }
+        ensures fits { IfOk result (λ done. AreFit done.sent) }
+        ensures snapshot { B.base_snapshot self.new.book ≡ B.base_snapshot self.old.book }
     {
         if message.to != self.book.me() {
             return Ok(self.idle());
@@ -34,6 +36,10 @@ impl<B: Book> Core<B> {
             Refuses B.stands (rule_of event.now) self.old why) }
         ensures err { OnErr result (KeepsAll B.stands self.old self.new) }
         ensures ample { IfErr result (λ why. IsNoMemory why → takes_memory event.now ≡ true) }
+        ensures fits { IfOk result (λ done. AreFit done.sent) }
+        ensures accepted { IfOk result (λ done.
+            is_request event.now ≡ true → IsAccepted B.fits done.outcome) }
+        ensures snapshot { B.base_snapshot self.new.book ≡ B.base_snapshot self.old.book }
     {
         match event {
             Event::Timeout => self.timeout(),

@@ -1,43 +1,30 @@
--- What an event that is done sends and answers.
-use Rattle.std.proofs.Common.{◌≡◌, ℕ, List, Bool, true, Option, None, Some, Result, Ok, Err, All, IsSome, IsTrue, IfOk, OnOk, refl, sym, ◌∙◌, subst}
+-- What is told of an event.
+use Rattle.std.proofs.Common.{◌≡◌, ℕ, List, Bool, Option, None, Some, Result, Ok, Err, IsSome, IsTrue, IfOk, OnOk, refl, sym, ◌∙◌, subst}
 use Rattle.gl_entry.specs.declared.entry.Entry.{Entry}
-use Rattle.gl_messages.specs.Message.{body_fits}
-use Rattle.gl_messages.specs.declared.message.Message.{Message}
 use Rattle.gl_ledger.specs.LedgerBook.{ServiceBook}
-use Rattle.gl_replication.specs.Events.{rule_of}
+use Rattle.gl_replication.specs.Events.{IsAccepted, rule_of}
 use Rattle.gl_replication.specs.Holding.{Holding}
-use Rattle.gl_replication.specs.Standing.{At}
-use Rattle.gl_replication.specs.Stands.{KeepsAll, Refuses, Reports, Steps, held_by}
-use Rattle.gl_answers.specs.Limits.{KeepsLimits}
+use Rattle.gl_replication.specs.Stands.{KeepsAll, Refuses, Reports, Steps}
+use Rattle.gl_replication.specs.declared.done.Outcome.{Outcome}
+use Rattle.gl_replication.specs.declared.done.Outcome.TheVariants as outcomes
 use Rattle.gl_outside.specs.Disk.{IsImage, Leaves, Step}
 use Rattle.gl_outside.specs.Fault.{Rose}
 use Rattle.gl_journal.specs.Durable.{Durable, LogRules, OpensToOneOf, durable}
 use Rattle.gl_node.specs.Answers.{OnRefusal, stopped_count}
 use Rattle.gl_node.specs.Kept.{kept_after}
-use Rattle.gl_node.specs.Persistence.{StandsForSome}
 use Rattle.gl_node.specs.declared.fault.NodeFault.TheVariants.{Refused, DiskFault, Stopped}
-use Rattle.gl_serve.specs.ClientAnswers.{IsAccepted}
 use Rattle.gl_serve.specs.Events.{Happens}
-use Rattle.gl_serve.specs.Requests.{is_request}
 use Rattle.gl_serve.specs.Types.{NodeCore, NodeDone, NodeEvent, NodeFaults, NodeSeen}
-use Rattle.gl_serve.proofs.Accepting.{accepted_from, rule_settles}
-use Rattle.gl_serve.proofs.SentMessages.{fit_sent, rule_fits}
 
-module _ {D S : Type 0} (stands : S → ServiceBook → Holding Entry → Type 0)
-    (event : NodeEvent S) (old new : NodeSeen D S) (held : NodeCore S) (is : held ≡ old.core) (limits : At stands held.book (λ b h. KeepsLimits b h.log)) (some : StandsForSome stands old.core) (done : NodeDone S) (steps : Steps stands (rule_of event) old.core done new.core) where
-  keeps : KeepsLimits some.rules some.node.log
-  keeps =
-      subst (λ (c : NodeCore S). At stands c.book (λ b h. KeepsLimits b h.log)) is limits some.rules (held_by some.me some.node) some.standing.ledger
-
-  pub sent_fits : All (λ (m : Message). IsTrue (body_fits m.body)) done.sent
-  sent_fits =
-      let step = steps some.rules some.me some.node some.standing in
-      fit_sent done.sent (rule_of event some.rules some.me some.node).sent step.sent (rule_fits some.rules keeps.frames event some.me some.node keeps.entries)
-
-  pub is_accepted : is_request event ≡ true → IsAccepted done.outcome
-  is_accepted asked =
-      let step = steps some.rules some.me some.node some.standing in
-      accepted_from done.outcome (rule_of event some.rules some.me some.node).outcome step.outcome (rule_settles some.rules some.node keeps event some.me asked)
+-- what is accepted with an answer of one kind is accepted with one of a wider kind
+pub accepted_wider : {A : Type 0} (P Q : A → Type 0) → ((answer : A) → P answer → Q answer) → (o : Outcome A) → IsAccepted P o → IsAccepted Q o
+accepted_wider P Q wider (outcomes.Accepted view seqno answer) is = wider answer is
+accepted_wider P Q wider outcomes.Done is = is
+accepted_wider P Q wider outcomes.Idle is = is
+accepted_wider P Q wider outcomes.BecameCandidate is = is
+accepted_wider P Q wider outcomes.BecameLeader is = is
+accepted_wider P Q wider (outcomes.Signed view seqno) is = is
+accepted_wider P Q wider (outcomes.Committed view seqno) is = is
 
 -- what is told of an event is what it comes to
 module _ {D S : Type 0} (stands : S → ServiceBook → Holding Entry → Type 0) (goes_on : LogRules) (honest : Bool) (bytes : D → List ℕ) (past : D → List Step) (faults : D → ℕ)

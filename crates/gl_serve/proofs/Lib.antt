@@ -6,12 +6,9 @@ pub mod SendingLaws
 pub mod WorkingLaws
 pub mod Whole
 pub mod Stopping
-pub mod Accepting
-pub mod Batching
 pub mod EventAnswers
 pub mod KeepingEvents
 pub mod Living
 pub mod NoEntries
-pub mod SentMessages
 pub mod Ending
 pub mod Telling

@@ -18,7 +18,6 @@ use Rattle.gl_replication.specs.declared.done.Outcome.TheVariants.{Accepted}
 use Rattle.gl_answers.specs.Reasons.{numbers, reason_of, seen_refusal}
 use Rattle.gl_answers.specs.Encoding.{values_bytes}
 use Rattle.gl_answers.specs.declared.value.Reason.{Reason}
-use Rattle.gl_answers.specs.Limits.{FitsGiven}
 use Rattle.gl_answers.specs.Reply.{given_bytes}
 use Rattle.gl_node.specs.declared.fault.NodeFault.TheVariants.{Refused, DiskFault, Stopped}
 use Rattle.gl_serve.specs.declared.node.Outcome.{Outcome}
@@ -114,8 +113,3 @@ IsAnswered number (outcomes.Done messages (Some answer) heard) = answer.number �
 IsAnswered number (outcomes.Done messages None heard) = ⊥
 IsAnswered number outcomes.Stopped = Unit {0}
 IsAnswered number outcomes.NoMemory = Unit {0}
-
--- The outcome of an accepted request, whose reply keeps the limit of answers.
-abbrev pub IsAccepted : done.Outcome Response → Type 0
-IsAccepted (Accepted view seqno given) = FitsGiven given
-IsAccepted other = ⊥

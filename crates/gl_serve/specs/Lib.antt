@@ -14,6 +14,5 @@ pub mod Life
 pub mod OverLink
 pub mod NoEntries
 pub mod Payloads
-pub mod Requests
 pub mod NodeWork
 pub mod Types

@@ -1,12 +1,13 @@
 //! What clients are answered.
 
-ghost use Rattle.std.specs.Prelude.{◌≡◌, ◌⊎◌, ◌≤◌, All, IfOk, IsTrue, length};
+ghost use Rattle.std.specs.Prelude.{◌≡◌, ◌⊎◌, ◌≤◌, IfOk, IsTrue, length};
 ghost use Rattle.gl_messages.specs.Answer.{answer_body_fits, status_byte};
-ghost use Rattle.gl_messages.specs.Message.{body_fits};
+ghost use Rattle.gl_answers.specs.Limits.{FitsGiven};
 ghost use Rattle.gl_answers.specs.Reasons.{most_values, seen_refusal};
+ghost use Rattle.gl_replication.specs.Events.{AreFit, IsAccepted};
 ghost use Rattle.gl_serve.specs.Rules.{Fits};
 ghost use Rattle.gl_serve.specs.declared.node.Outcome.TheVariants.{NoMemory};
-ghost use Rattle.gl_serve.specs.ClientAnswers.{IsAccepted, IsAnswered, Says, accepts, answers, json_answer_body, make_reason, reason_answer_body, refusal_answer_body};
+ghost use Rattle.gl_serve.specs.ClientAnswers.{IsAnswered, Says, accepts, answers, json_answer_body, make_reason, reason_answer_body, refusal_answer_body};
 
 use crate::Outcome;
 use gl_answers::{ClientBook, Reason, given_bytes, reason_of, values_bytes};
@@ -103,8 +104,8 @@ pub fn answer(alloc: Global, number: u64, content: AnswerBody) -> Outcome
 
 /// The answer to an accepted request.
 pub fn accept<B: KeptBook + ClientBook>(alloc: Global, number: u64, done: Done<B>) -> Outcome
-    requires accepted { IsAccepted done.outcome }
-    requires fits { All (λ m. IsTrue (body_fits m.body)) done.sent }
+    requires accepted { IsAccepted FitsGiven done.outcome }
+    requires fits { AreFit done.sent }
     ensures due { (result ≡ accepts number done) ⊎ (result ≡ NoMemory) }
     ensures fits { Fits result }
     ensures answered { IsAnswered number result }

@@ -38,8 +38,9 @@ pub fn serve_replica<L: Link, D: Disk, B: KeptBook + ClientBook, O: Observer>(
         last (L.past link.new) (L.inward link.new).coming result.0 }
 
     // At every moment a stop leaves a file with its closed gate, the same key, and no fewer spent
-    // leaves.
-    ensures any_moment { IsTrue D.honest → (d : Durable) →
+    // leaves, where there is a ledger with the node's snapshot.
+    ensures any_moment { IsTrue D.honest →
+        B.has_ledger (B.base_snapshot replica.core.book) → (d : Durable) →
         durable B.goes_on (D.bytes replica.disk) ≡ Ok d →
         Leaves (KeepsLeaves B.goes_on d) (D.past replica.disk) (D.past result.1) }
     // The node stopped only where the disk failed.
@@ -60,7 +61,8 @@ pub fn serve_replica<L: Link, D: Disk, B: KeptBook + ClientBook, O: Observer>(
         ⊎ Rose (L.send_faults link.old) (L.send_faults link.new)) }
 {
     let mut node = ServingNode::new(replica, observer);
-    // As it begins, the node stands for one of the rules, and its file keeps it.
+    // As it begins, the node stands for one of the rules, and its file keeps it, where there is a
+    // ledger with its snapshot.
     let _core = node.replica().core();
     let _disk = node.replica().disk();
     let served = serve(alloc, link, &mut node, settings);

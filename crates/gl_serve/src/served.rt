@@ -1,22 +1,21 @@
 //! What a node does with payloads and with events of its own.
 
-ghost use Rattle.std.specs.Prelude.{◌≡◌, ◌⊎◌, ℕ, [], ◌∷◌, All, IfOk, IsTrue, length, true};
+ghost use Rattle.std.specs.Prelude.{◌≡◌, ◌⊎◌, ℕ, [], ◌∷◌, IfOk, IsTrue, length, true};
 ghost use Rattle.gl_messages.specs.Answer.{answer_body_fits};
-ghost use Rattle.gl_messages.specs.Message.{body_fits};
 ghost use Rattle.gl_messages.specs.declared.answer.AnswerBody.TheVariants.{StatusIs};
 ghost use Rattle.gl_receipt.specs.Made.{receipt_of};
+ghost use Rattle.gl_answers.specs.Limits.{FitsGiven};
 ghost use Rattle.gl_answers.specs.Reasons.{numbers};
 ghost use Rattle.gl_answers.specs.Receipts.{receipts_of};
-ghost use Rattle.gl_replication.specs.Events.{has_few_entries};
+ghost use Rattle.gl_replication.specs.Events.{AreFit, IsAccepted, has_few_entries, is_request};
 ghost use Rattle.gl_replication.specs.declared.event.Event.TheVariants as events;
 ghost use Rattle.gl_replication.specs.Stands.{Reports};
 ghost use Rattle.gl_rules.specs.Log.{entry_at, is_signature_in};
 ghost use Rattle.gl_rules.specs.Replication.{is_evidence_due};
 ghost use Rattle.gl_rules.specs.Safety.{reported_status};
 ghost use Rattle.gl_serve.specs.Rules.{Fits};
-ghost use Rattle.gl_serve.specs.ClientAnswers.{Answers, IsAccepted, IsAnswered, Says, message_outcome, nothing, reason_answer_body, receipt_answer_body};
+ghost use Rattle.gl_serve.specs.ClientAnswers.{Answers, IsAnswered, Says, message_outcome, nothing, reason_answer_body, receipt_answer_body};
 ghost use Rattle.gl_serve.specs.Events.{Happens};
-ghost use Rattle.gl_serve.specs.Requests.{is_request};
 ghost use Rattle.gl_serve.specs.NodeWork.{Asks, Comes, Handles, Happen, HappenDue, HappenUnsigned, Owns, Questions, Report};
 
 use crate::answers::{
@@ -43,9 +42,9 @@ fn apply_event<D: Disk, B: KeptBook + ClientBook>(
     requires few { has_few_entries event ≡ true }
     ensures happens { Happens B.stands B.goes_on D.honest D.bytes D.past D.faults
         event replica.old result replica.new }
-    ensures fits { IfOk result (λ done. All (λ m. IsTrue (body_fits m.body)) done.sent) }
+    ensures fits { IfOk result (λ done. AreFit done.sent) }
     ensures accepted { IfOk result (λ done.
-        is_request event ≡ true → IsAccepted done.outcome) }
+        is_request event ≡ true → IsAccepted FitsGiven done.outcome) }
 {
     replica.core().book.keeps_limits();
     replica.event(event)

@@ -1,5 +1,5 @@
 -- What a node's ledger takes, or refuses, is what the book of each ledger that it stands for makes.
-use Rattle.std.proofs.Common.{◌≡◌, ℕ, ◌-◌, ◌≤◌, max, List, [], ◌∷◌, ◌++◌, take, Option, Some, None, Result, Ok, Err, refl, sym, ◌∙◌, ap, subst, arith}
+use Rattle.std.proofs.Common.{◌≡◌, ℕ, ◌-◌, ◌≤◌, max, List, [], ◌∷◌, ◌++◌, take, Option, Some, None, Result, Ok, Err, OnOk, OnErr, refl, sym, ◌∙◌, ap, subst, arith}
 use Rattle.gl_base.specs.Answers.{Fails}
 use Rattle.gl_base.specs.declared.or_no_memory.OrNoMemory.{OrNoMemory}
 use Rattle.gl_base.specs.declared.or_no_memory.OrNoMemory.TheVariants.{NoMemory, Fault}
@@ -148,6 +148,11 @@ kept_base l (e ∷ es) new h = go (broken_after l e) h (kept_base (with_entries 
         (appended (with_entries l (l.entries ++ e ∷ [])) es ≡ Ok new → new ≡ with_entries l new.entries) → new ≡ with_entries l new.entries
     go None w again = again w
     go (Some why) w again = absurd (cc)
+
+-- so its snapshot does, also where the entries are refused
+pub kept_snapshot : {X E : Type 0} (r : Result X E) (l new : BasedLedger) (seqno : ℕ) (es : List Entry) → OnOk r (appended (cut_to seqno l) es ≡ Ok new) → OnErr r (new ≡ l) → new.snapshot ≡ l.snapshot
+kept_snapshot (Ok x) l new seqno es replaced stays = ap (λ (b : BasedLedger). b.snapshot) (kept_base (cut_to seqno l) es new replaced)
+kept_snapshot (Err e) l new seqno es replaced stays = ap (λ (b : BasedLedger). b.snapshot) stays
 
 module _ (keys : NodeKeys) where
   -- an entry that breaks no rule behind the base breaks none in the book

@@ -1,26 +1,23 @@
 -- What receipts ask of a ledger with a base is so in each ledger that it stands for.
-use Rattle.std.proofs.Common.{◌≡◌, ℕ, zero, suc, ◌+◌, ◌-◌, ◌<◌, ◌≤◌, Bool, true, false, List, [], ◌∷◌, ◌++◌, All, IsTrue, length, take, drop, nat_le, Option, None, Some, Bor, IfSome, Result, Ok, Err, IfOk, if◌then◌else◌, refl, sym, ap, subst, ◌∙◌, arith}
-use Rattle.std.specs.List.{AllByRecursion, find}
+use Rattle.std.proofs.Common.{◌≡◌, ℕ, zero, suc, ◌+◌, ◌-◌, ◌<◌, ◌≤◌, Bool, true, false, List, [], ◌++◌, length, take, drop, nat_le, Option, None, Some, Bor, IfSome, Result, Ok, Err, IfOk, if◌then◌else◌, refl, sym, ap, subst, ◌∙◌, arith}
+use Rattle.std.specs.List.{find}
 use Rattle.std.specs.Option.{option_copied}
 use Rattle.std.proofs.lemmas.Bool.Decides.{nat_tests}
-use Rattle.std.proofs.lemmas.List.Elements.{All-from_recursion}
 use Rattle.gl_base.proofs.Lists.{slice_get-within}
 use Rattle.gl_merkle.specs.Frontier.{Content, ForLeaves, IsBase, count_of}
 use Rattle.gl_merkle.specs.Peaks.{peaks_of, peaks_over, peaks_within}
 use Rattle.gl_merkle.proofs.MorePeaks.{peaks_of-more}
 use Rattle.gl_rules.specs.Log as logs
-use Rattle.gl_entry.specs.Entry.{is_entry, is_signature}
+use Rattle.gl_entry.specs.Entry.{is_signature}
 use Rattle.gl_entry.specs.declared.entry.Entry.{Entry}
 use Rattle.gl_snapshot_body.specs.declared.body.Body.{Body}
-use Rattle.gl_ledger.specs.Audit.{audited_over}
 use Rattle.gl_ledger.specs.NodeKeys.{service_layers}
 use Rattle.gl_ledger.specs.ServiceRow.{identity_in}
 use Rattle.gl_ledger.specs.Snapshot.{leaves_over, tables_over, view_at}
 use Rattle.gl_ledger.specs.Tree.{leaves_of, tables_of}
 use Rattle.gl_ledger.proofs.TablesLaws.{length-leaves_of}
 use Rattle.gl_ledger_base.specs.Ledgers.{HoldsLedger}
-use Rattle.gl_ledger_base.proofs.LedgersHeld.{held_audited, held_base, held_tables, held_view}
-use Rattle.gl_ledger_base.proofs.LedgersRead.{is_read}
+use Rattle.gl_ledger_base.proofs.LedgersHeld.{held_base, held_tables, held_view}
 use Rattle.gl_ledger_base.proofs.LedgersReads.{held_above, held_cut, held_rest}
 use Rattle.gl_ledger_base.proofs.LedgersTold.{leaves_told}
 use Rattle.gl_audit.specs.Kept.{IsTreeOver}
@@ -30,15 +27,6 @@ use Rattle.gl_audit.specs.declared.ledger_state.LedgerState.{LedgerState}
 use Rattle.gl_receipt.specs.Made as made
 use Rattle.gl_store.specs.Tail.{StandsBehind, Tail}
 use Rattle.gl_store.proofs.Tails.{from_base}
-use Rattle.gl_store_book.proofs.FrameLaws.{AllFit}
-
--- each fits its format
-pub all_true : (ledger : List Entry) → AllFit ledger → All (λ (e : Entry). IsTrue (is_entry e)) ledger
-all_true ledger fits = All-from_recursion (λ (e : Entry). IsTrue (is_entry e)) ledger (go ledger fits)
-  where
-    go : (es : List Entry) → AllFit es → AllByRecursion (λ (e : Entry). IsTrue (is_entry e)) es
-    go [] fits = tt
-    go (e ∷ es) fits = (fits 0 e refl, go es (λ i f at. fits (suc i) f at))
 
 same_at : (es : List Entry) (seqno : ℕ) → logs.entry_at es seqno ≡ made.entry_at es seqno
 same_at es zero = refl
@@ -124,12 +112,6 @@ module _ (body : Body) (es log : List Entry) (holds : HoldsLedger service_layers
     pub given_of_leaves : {X E : Type 0} (P : X → List (List ℕ) → Type 0) (r : Result X E) → IfOk r (λ x. ForLeaves f (P x)) → IfOk r (λ x. P x (leaves_of log))
     given_of_leaves P (Ok x) all = subst (P x) leaves_whole (all (leaves_of holds.below) leaves_below)
     given_of_leaves P (Err e) all = tt
-
--- ---- formats
-
--- each entry fits its format, those up to the base too
-pub held_fits : (body : Body) (es log : List Entry) → HoldsLedger service_layers body es log → audited_over service_layers body es ≡ None → AllFit log
-held_fits body es log holds valid = (is_read service_layers body.base log (held_audited service_layers body es log holds valid)).in_order.fits
 
 -- ---- the frontier of a tail
 

@@ -1,14 +1,18 @@
 -- What holds of a key alone and stays with each record that folds holds of each state that a file
 -- opens to.
-use Rattle.std.proofs.Common.{◌≡◌, ℕ, zero, suc, ◌+◌, ◌≤◌, Bool, true, false, ◌||◌, ◌&&◌, ◌==◌, nat_lt, if◌then◌else◌, List, [], ◌∷◌, length, Option, None, Some, Result, Ok, Err, refl, subst, arith, ltb-false}
+use Rattle.std.proofs.Common.{◌≡◌, ℕ, zero, suc, ◌+◌, ◌<◌, ◌≤◌, Bool, true, false, ◌||◌, ◌&&◌, ◌==◌, nat_lt, if◌then◌else◌, List, [], ◌∷◌, length, Option, None, Some, Result, Ok, Err, refl, subst, arith, ltb-false}
+use Rattle.std.proofs.lemmas.Bool.{or_parts}
 use Rattle.gl_base.specs.Cut.{Unread}
 use Rattle.gl_base.specs.declared.fault.CutFault.{CutFault}
 use Rattle.gl_journal.specs.Gates.{payload_at, payloads_of}
 use Rattle.gl_journal.specs.Records.{RecordValue, Key, Vote, Cut, Append, Signer, Install, Start, record_of}
-use Rattle.gl_journal.specs.Durable.{Durable, LogRules, Folding, Next, leaf_count, key_alone, installed, fold_record, first_record, fold_next, after_fold, after_record, after_body, fold_within, fold_payload, then_folding, fold_payloads, begins_with_key, fold_answer, durable_of, durable, journal_header}
+use Rattle.gl_journal.specs.Durable.{Durable, LogRules, Folding, Next, leaf_count, key_alone, raised, installed, fold_record, first_record, fold_next, after_fold, after_record, after_body, fold_within, fold_payload, then_folding, fold_payloads, begins_with_key, fold_answer, durable_of, durable, journal_header}
 use Rattle.gl_journal.specs.declared.fault.JournalFault.{JournalFault}
 use Rattle.gl_journal.specs.declared.installed.Installed.{Installed}
 use Rattle.gl_journal.specs.declared.key.Key.{Key as KeyFields}
+use Rattle.gl_store_book.specs.BasedLedgers.{body_encoded, body_of}
+use Rattle.gl_store_book.specs.Frames.{goes_on_ledger}
+use Rattle.gl_store_book.proofs.InstalledBodies.{told_base}
 
 module _ (P : Durable → Type 0) where
   abbrev pub HoldsAny : Option Durable → Type 0
@@ -98,40 +102,44 @@ module _ (P : Durable → Type 0) where
     unfolding durable
     durable_holds file s is = subst HoldsAll is (opening_holds (payloads_of journal_header file))
 
--- ---- what each file opens to
+-- ---- what each file of a node opens to
 
--- No snapshot was installed, and no more leaves are spent than there are.
+-- The base is that of the snapshot, which there is none of where it is 0; and no more leaves are
+-- spent than there are.
 pub record IsOrdered (s : Durable) : Type 0 where
-  pub base : s.base ≡ 0
-  pub snapshot : s.snapshot ≡ None
+  pub base : s.base ≡ (body_of s.snapshot).base
+  pub begun : s.base ≡ 0 → s.snapshot ≡ None
   pub within : s.reserved ≤ leaf_count s
 
-not_second : (a b : Bool) → (a || b) ≡ false → b ≡ false
-not_second true b is = cc
-not_second false b is = is
-
 ordered_alone : (key : KeyFields) → IsOrdered (key_alone key)
-ordered_alone key = record { base = refl; snapshot = refl; within = omega arith }
+ordered_alone key = record { base = refl; begun = λ none. refl; within = omega arith }
 
--- bytes that are no snapshot don't fold
-none_installed : (s : Durable) (body : List ℕ) (first : Bool) (found : Option Installed) → found ≡ None → HoldsAny IsOrdered (if first then installed s body found else None)
-none_installed s body true None is = tt
-none_installed s body true (Some at) is = absurd (cc)
-none_installed s body false found is = tt
+raised_within : (view : ℕ) (s : Durable) → s.reserved ≤ leaf_count s → (raised view s).reserved ≤ leaf_count (raised view s)
+raised_within view s within = go (nat_lt s.view view)
+  where
+    go : (b : Bool) → let r : Durable = if b then record s { view = view; vote = None } else s in r.reserved ≤ leaf_count r
+    go true = within
+    go false = within
 
--- No bytes are a snapshot.
-abbrev pub TakesNone : LogRules → Type 0
-TakesNone goes_on = (body : List ℕ) → goes_on.installs body ≡ None
+-- a snapshot that folds tells its base, which is above 0
+install_ordered : (s : Durable) (bytes : List ℕ) (first : Bool) (found : Option Installed) → ((at : Installed) → found ≡ Some at → (at.base ≡ (body_encoded bytes).base) × (0 < at.base)) → IsOrdered s →
+    HoldsAny IsOrdered (if first then installed s bytes found else None)
+install_ordered s bytes true None told here = tt
+install_ordered s bytes true (Some at) told here =
+    let is = told at refl in
+    let above = is.1 in
+    record { base = is.0; begun = λ none. absurd (omega (arith, above, none)); within = raised_within at.view s here.within }
+install_ordered s bytes false found told here = tt
 
-ordered_stays : (goes_on : LogRules) → TakesNone goes_on → (s : Durable) (rec : RecordValue) → IsOrdered s → HoldsAny IsOrdered (fold_record goes_on s rec)
-ordered_stays goes_on none s (Key key) here = tt
-ordered_stays goes_on none s (Vote view vote) here = holds_unless IsOrdered (nat_lt view s.view) _ (λ is. record { base = here.base; snapshot = here.snapshot; within = here.within })
-ordered_stays goes_on none s (Cut to) here = holds_unless IsOrdered (nat_lt to s.base || nat_lt (s.base + length s.log) to) _ (λ is. record { base = here.base; snapshot = here.snapshot; within = here.within })
-ordered_stays goes_on none s (Append frame) here = holds_if IsOrdered (goes_on.appends s.snapshot s.log frame) _ (record { base = here.base; snapshot = here.snapshot; within = here.within })
-ordered_stays goes_on none s (Signer reserved) here = holds_unless IsOrdered (nat_lt reserved s.reserved || nat_lt (leaf_count s) reserved) _
-    (λ is. record { base = here.base; snapshot = here.snapshot; within = ltb-false (leaf_count s) reserved (not_second (nat_lt reserved s.reserved) (nat_lt (leaf_count s) reserved) is) })
-ordered_stays goes_on none s (Install body) here = none_installed s body ((s.base == 0) && (length s.log == 0)) (goes_on.installs body) (none body)
-ordered_stays goes_on none s (Start leaves) here = holds_unless IsOrdered (nat_lt (leaf_count s) leaves) _ (λ is. record { base = here.base; snapshot = here.snapshot; within = here.within })
+ordered_stays : (s : Durable) (rec : RecordValue) → IsOrdered s → HoldsAny IsOrdered (fold_record goes_on_ledger s rec)
+ordered_stays s (Key key) here = tt
+ordered_stays s (Vote view vote) here = holds_unless IsOrdered (nat_lt view s.view) _ (λ is. record { base = here.base; begun = here.begun; within = here.within })
+ordered_stays s (Cut to) here = holds_unless IsOrdered (nat_lt to s.base || nat_lt (s.base + length s.log) to) _ (λ is. record { base = here.base; begun = here.begun; within = here.within })
+ordered_stays s (Append frame) here = holds_if IsOrdered (goes_on_ledger.appends s.snapshot s.log frame) _ (record { base = here.base; begun = here.begun; within = here.within })
+ordered_stays s (Signer reserved) here = holds_unless IsOrdered (nat_lt reserved s.reserved || nat_lt (leaf_count s) reserved) _
+    (λ is. record { base = here.base; begun = here.begun; within = ltb-false (leaf_count s) reserved (or_parts (nat_lt reserved s.reserved) (nat_lt (leaf_count s) reserved) is).1 })
+ordered_stays s (Install bytes) here = install_ordered s bytes ((s.base == 0) && (length s.log == 0)) (goes_on_ledger.installs bytes) (told_base bytes) here
+ordered_stays s (Start leaves) here = holds_unless IsOrdered (nat_lt (leaf_count s) leaves) _ (λ is. record { base = here.base; begun = here.begun; within = here.within })
 
-pub durable_ordered : (goes_on : LogRules) → TakesNone goes_on → (file : List ℕ) (s : Durable) → durable goes_on file ≡ Ok s → IsOrdered s
-durable_ordered goes_on none file s is = durable_holds IsOrdered goes_on ordered_alone (ordered_stays goes_on none) file s is
+pub durable_ordered : (file : List ℕ) (s : Durable) → durable goes_on_ledger file ≡ Ok s → IsOrdered s
+durable_ordered file s is = durable_holds IsOrdered goes_on_ledger ordered_alone ordered_stays file s is

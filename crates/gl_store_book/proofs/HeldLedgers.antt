@@ -14,8 +14,9 @@ use Rattle.gl_ledger_base.specs.Ledgers.{HoldsLedger}
 use Rattle.gl_ledger_base.proofs.LedgersHeld.{held_base, held_length}
 use Rattle.gl_node.specs.Kept.{Kept}
 use Rattle.gl_node.specs.Persistence.{HoldsAbove}
+use Rattle.gl_replication.specs.Standing.{At}
 use Rattle.gl_store_book.specs.BasedLedgers.{BasedLedger, IsEncoded, body_encoded, body_of}
-use Rattle.gl_store_book.specs.Stands.{NodeStore, Stands, held_of, snapshot_below, snapshot_up_to}
+use Rattle.gl_store_book.specs.Stands.{HasLedger, NodeStore, Stands, held_of, snapshot_below, snapshot_up_to}
 
 -- where there is a snapshot its base is above 0
 pub spelled_some : (bytes : List ℕ) → IsEncoded (Some bytes) → 0 < (body_encoded bytes).base
@@ -69,3 +70,7 @@ holds_above s b h stands =
       entries = ap (λ (n : ℕ). drop n h.log) is.base ∙ kept_above_base l h.log is.holds;
       snapshot = ap (λ (n : ℕ). snapshot_below (take n h.log)) is.base ∙ snapshot_kept l h.log is.holds is.spelled;
     }
+
+-- and there is a ledger with its snapshot
+pub has_ledger : (s : NodeStore) → At Stands s (λ b h. HasLedger s.ledger.snapshot)
+has_ledger s b h stands = let holds = stands.holding.holds in (holds.below, holds.base)

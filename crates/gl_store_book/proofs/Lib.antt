@@ -23,10 +23,12 @@ pub mod TailPasts
 pub mod TakenEntries
 pub mod TakenEvidence
 pub mod Batches
+pub mod Batching
 pub mod Appending
 pub mod Openings
 pub mod HeldLedgers
 pub mod FrameLaws
+pub mod InstalledBodies
 pub mod CommittedBooks
 pub mod ShownSnapshots
 pub mod ServiceStarts

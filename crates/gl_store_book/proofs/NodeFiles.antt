@@ -1,5 +1,7 @@
 -- What a node's file folds into.
-use Rattle.std.proofs.Common.{◌≡◌, ◌≤◌, ◌++◌, ℕ, max, List, [], Ok, None, Some, refl, ap, sym, ◌∙◌}
+use Rattle.std.proofs.Common.{◌≡◌, ◌≤◌, ◌++◌, ℕ, max, List, [], Ok, None, Some, false, length, nat_lt, ap, sym, ◌∙◌, arith, ltb-false}
+use Rattle.std.proofs.lemmas.Bool.{or_parts}
+use Rattle.std.proofs.lemmas.List.{nil_from_length}
 use Rattle.gl_rules.specs.Identity.{NodeId}
 use Rattle.gl_rules.specs.World.{Start}
 use Rattle.gl_entry.specs.declared.entry.Entry.{Entry}
@@ -7,7 +9,7 @@ use Rattle.gl_journal.specs.Durable.{Durable, fold_records, leaf_count}
 use Rattle.gl_journal.specs.Records.{RecordValue}
 use Rattle.gl_store_book.specs.AtOpening.{append_records, opened_state, opening_records, opening_view, vote_records}
 use Rattle.gl_store_book.specs.Frames.{goes_on_ledger}
-use Rattle.gl_store_book.specs.NodeFile.{opened}
+use Rattle.gl_store_book.specs.NodeFile.{has_ledger, opened}
 use Rattle.gl_store_book.specs.ServiceStart.{service_start, start_in}
 use Rattle.gl_store_book.specs.ViewVotes.{IsViewVoteOf, view_vote_records}
 use Rattle.gl_store_book.specs.declared.node_file.opening_batch.ViewVote.{ViewVote}
@@ -17,11 +19,15 @@ use Rattle.gl_store_book.proofs.ServiceStarts.{start_valid, start_fits}
 
 -- no file tells of more reserved leaves than its key has
 pub limited : (file : List ℕ) (old new : Durable) → (old.reserved ≤ leaf_count old → new ≡ old) → opened file ≡ Ok old → opened file ≡ Ok new
-limited file old new same is = is ∙ ap (λ (d : Durable). Ok d) (sym (same (durable_ordered goes_on_ledger (λ body. refl) file old is).within))
+limited file old new same is = is ∙ ap (λ (d : Durable). Ok d) (sym (same (durable_ordered file old is).within))
 
--- no file tells of a snapshot
-pub without_snapshot : (file : List ℕ) (d : Durable) → opened file ≡ Ok d → d.snapshot ≡ None
-without_snapshot file d is = (durable_ordered goes_on_ledger (λ body. refl) file d is).snapshot
+-- a file that has no ledger has no snapshot either
+pub without_snapshot : (file : List ℕ) (d : Durable) → has_ledger d ≡ false → opened file ≡ Ok d → (d.snapshot ≡ None) × (d.log ≡ [])
+without_snapshot file d none is =
+    let parts = or_parts (nat_lt 0 d.base) (nat_lt 0 (length d.log)) none in
+    let base = ltb-false 0 d.base parts.0 in
+    let long = ltb-false 0 (length d.log) parts.1 in
+    ((durable_ordered file d is).begun (omega (arith, base)), nil_from_length d.log (omega (arith, long)))
 
 -- the batch of an opening that was read
 pub read_folds : (bytes : List ℕ) (ledger : List Entry) (first : NodeId) (d : Durable) (t : ViewVote) (entries : List Entry) (s : Start Entry)

@@ -288,6 +288,9 @@ module _ (s : Option (List ℕ)) (t : Tail) (lists : NodeLists) (l : BasedLedger
   pub stands_seen : StandsBehind (body_of l.snapshot) t
   stands_seen = subst (λ (x : BasedLedger). StandsBehind (body_of x.snapshot) t) is k.stands
 
+  pub spelled_seen : IsEncoded l.snapshot
+  spelled_seen = subst (λ (x : BasedLedger). IsEncoded x.snapshot) is k.spelled
+
   pub base_seen : t.base_end.len ≡ base_of l
   base_seen = base_is (body_of l.snapshot) t stands_seen
 

@@ -1,5 +1,7 @@
 -- What a ledger takes: with the trial by the rules of the audit, and where that refuses nothing.
 use Rattle.std.proofs.Common.{◌≡◌, ℕ, ◌+◌, ◌<◌, ◌^◌, List, [], ◌∷◌, ◌++◌, length, Option, Some, None, Result, Ok, Err, Bool, true, false, ◌||◌, nat_lt, if◌then◌else◌, refl, sym, ap, subst, ◌∙◌}
+use Rattle.gl_answers.specs.Limits.{FitsGiven}
+use Rattle.gl_answers.proofs.ServiceLimits.{guarded_request_answered}
 use Rattle.gl_base.specs.Answers.{Fails}
 use Rattle.gl_base.specs.TxId.{last_seqno}
 use Rattle.gl_base.specs.declared.or_no_memory.OrNoMemory.{OrNoMemory}
@@ -40,7 +42,7 @@ use Rattle.gl_ledger.proofs.Valid.{valid_sound}
 use Rattle.gl_ledger_base.specs.BookOver.{guarded_over}
 use Rattle.gl_store_book.specs.BasedLedgers as based
 use Rattle.gl_store_book.specs.BasedLedgers.{BasedLedger, IsAudited, body_of, broken_after, with_entries}
-use Rattle.gl_store_book.specs.Taken.{IsNoGovernance, RefusesFor, Takes, governed}
+use Rattle.gl_store_book.specs.Taken.{IsNoGovernance, RefusesFor, Takes, executed, governed}
 use Rattle.gl_store_book.proofs.AnyKeys.{any_keys}
 use Rattle.gl_store_book.proofs.WholeBased.{whole_audited, whole_broken}
 
@@ -202,6 +204,11 @@ takes l new view made expected is in_view unbroken entered = record {
   in_view = in_view;
   entered = entered;
 }
+
+-- a request of an application is given an answer that can be sent
+pub executed_fits : (l new : BasedLedger) (view : ℕ) (q : List Operation) (given : Response) → Takes (executed l view q) view given l new → FitsGiven given
+executed_fits l new view q given t =
+    guarded_request_answered (tried l entry_made) (broken_after l) (λ made. refl) (λ why. refl) (based.past_of l) view q t.entry given t.made
 
 -- ---- refusals of governance
 

@@ -17,18 +17,23 @@ use Rattle.gl_store_book.specs.NodeFile.{node_of}
 
 -- ---- the node of a file
 
--- The ledger whose entries have the frames that a file keeps; of no entries, where there is none.
+-- The entries whose frames a file keeps: those above its base.
 abbrev pub kept_ledger : Durable → List Entry
 kept_ledger d = unwrap_or (ledger_of_frames d.log) []
 
--- What a file keeps of a node.
-abbrev pub kept_node : Durable → Node Entry
-kept_node d =
-    record joiner { view = d.view; vote = d.vote; log = kept_ledger d; reserved = d.reserved }
+-- What a file keeps of a node, where these are the entries up to its base.
+abbrev pub kept_node : List Entry → Durable → Node Entry
+kept_node below d = record joiner {
+  view = d.view;
+  vote = d.vote;
+  log = below ++ kept_ledger d;
+  base = length below;
+  reserved = d.reserved;
+}
 
--- The node of a file, as a restart leaves it.
-abbrev pub restarted_node : ServiceBook → Durable → Node Entry
-restarted_node b d = (restart b (kept_node d)).node
+-- The node of a file, as a restart leaves it, where these are the entries up to its base.
+abbrev pub restarted_node : ServiceBook → List Entry → Durable → Node Entry
+restarted_node b below d = (restart b (kept_node below d)).node
 
 -- ---- an opening
 
@@ -70,7 +75,7 @@ leads_at_opening s d =
 -- The node of the file then: the leader of the opening's view, or a follower.
 abbrev pub node_at_opening : ServiceBook → Start Entry → Durable → Node Entry
 node_at_opening b s d =
-    lead_if b (leads_at_opening s d) (restarted_node b (opened_state s d))
+    lead_if b (leads_at_opening s d) (restarted_node b [] (opened_state s d))
 
 -- ---- the batch that keeps it
 

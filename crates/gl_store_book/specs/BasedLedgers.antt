@@ -36,7 +36,8 @@ body_of (Some bytes) = body_encoded bytes
 -- The bytes are those of a body, where there is a snapshot.
 abbrev pub IsEncoded : Option (List ℕ) → Type 0
 IsEncoded None = Unit {0}
-IsEncoded (Some bytes) = (is_body (body_encoded bytes) ≡ true) × (bytes ≡ body_bytes (body_encoded bytes))
+IsEncoded (Some bytes) =
+    (is_body (body_encoded bytes) ≡ true) × (bytes ≡ body_bytes (body_encoded bytes))
 
 -- A whole ledger, from seqno 1 on.
 abbrev pub whole_ledger : List Entry → BasedLedger

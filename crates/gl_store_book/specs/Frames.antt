@@ -8,7 +8,11 @@ use Rattle.gl_entry.specs.declared.fault.EntryFault.{EntryFault}
 use Rattle.gl_journal.specs.Durable.{LogRules}
 use Rattle.gl_ledger.specs.NodeKeys.{service_layers}
 use Rattle.gl_ledger.specs.Broken.{broken_over}
-use Rattle.gl_store_book.specs.BasedLedgers.{body_of}
+use Rattle.gl_journal.specs.declared.installed.Installed.{Installed}
+use Rattle.gl_snapshot.specs.Parsing.{body_of as governed_body}
+use Rattle.gl_snapshot_body.specs.declared.body.Body.{Body}
+use Rattle.gl_snapshot_body.specs.declared.fault.ShapeFault.{ShapeFault}
+use Rattle.gl_store_book.specs.BasedLedgers.{BasedLedger, body_of}
 
 abbrev pub whole_entry : ℕ → Result (Entry × ℕ) EntryFault → Option Entry
 whole_entry size (Ok read) = if read.1 == size then Some read.0 else None
@@ -39,14 +43,27 @@ abbrev pub frame_goes_on : Option (List ℕ) → List (List ℕ) → List ℕ �
 frame_goes_on snapshot log frame =
     is_unbroken snapshot (ledger_of_frames log) (entry_of_frame frame)
 
--- What the file of a node lets in: no snapshot yet.
+-- What the body of a snapshot tells of a ledger that begins behind it, where it is one whose rows of
+-- governance spell.
+abbrev pub told_by : Result Body ShapeFault → Option Installed
+told_by (Ok body) = Some (record { base = body.base; view = body.view })
+told_by (Err fault) = None
+
+-- What the file of a node lets in.
 abbrev pub goes_on_ledger : LogRules
 goes_on_ledger = record {
   appends = frame_goes_on;
-  installs = λ body. None;
+  installs = λ bytes. told_by (governed_body 0 bytes);
 }
 
--- The frames of the entries of a ledger, if there is one.
-abbrev pub frames_of : Option (List Entry) → List (List ℕ)
+-- ---- a ledger as it is read from a file, where there is one yet
+
+-- The frames of its entries above the base.
+abbrev pub frames_of : Option BasedLedger → List (List ℕ)
 frames_of None = []
-frames_of (Some ledger) = map frame_bytes ledger
+frames_of (Some l) = map frame_bytes l.entries
+
+-- The bytes of the body of its snapshot, if it has one.
+abbrev pub snapshot_in : Option BasedLedger → Option (List ℕ)
+snapshot_in None = None
+snapshot_in (Some l) = l.snapshot

@@ -12,6 +12,8 @@ use Rattle.gl_replication.specs.Stands.{StandsFor}
 use Rattle.gl_replication.specs.declared.node.Core.{Core}
 use Rattle.gl_requests.specs.declared.request.GovernanceRequest.{GovernanceRequest}
 use Rattle.gl_tx.specs.declared.request.Operation.{Operation}
+use Rattle.gl_ledger_base.specs.Ledgers.{IsBase}
+use Rattle.gl_store_book.specs.BasedLedgers.{body_of}
 use Rattle.gl_store_book.specs.NodeFile.{key_of, node_of}
 use Rattle.gl_store_book.specs.Stands.{NodeStore, Stands}
 
@@ -19,10 +21,24 @@ use Rattle.gl_store_book.specs.Stands.{NodeStore, Stands}
 abbrev pub NodeCore : Type 0
 NodeCore = Core NodeStore (List Operation) GovernanceRequest Reads Response Rejection
 
--- Under the book of each service in which the node of a file has the file's key, it stands for this
+-- The entries up to the base of a file's ledger: its snapshot stands for them. Without a snapshot
+-- there are none.
+abbrev pub IsBelow : Durable → List Entry → Type 0
+IsBelow d below = IsBase service_layers (body_of d.snapshot) below
+
+-- Under the book of each service in which the node of a file has the file's key it stands for this
 -- node of the rules.
-abbrev pub StandsForFile : Durable → NodeCore → (ServiceBook → Node Entry) → Type 0
-StandsForFile d core node =
+abbrev pub StandsForKey : Durable → NodeCore → (ServiceBook → Node Entry) → Type 0
+StandsForKey d core node =
     (keys : NodeKeys) → keys.key_of (node_of d) ≡ key_of d →
     StandsFor Stands core (ledger_book service_layers keys) (node_of d)
     (node (ledger_book service_layers keys))
+
+-- Under the book of each service in which the node of a file has the file's key, and whatever
+-- entries stand up to its base, it stands for this node of the rules.
+abbrev pub StandsForFile : Durable → NodeCore → (ServiceBook → List Entry → Node Entry) → Type 0
+StandsForFile d core node =
+    (keys : NodeKeys) → keys.key_of (node_of d) ≡ key_of d →
+    (below : List Entry) → IsBelow d below →
+    StandsFor Stands core (ledger_book service_layers keys) (node_of d)
+    (node (ledger_book service_layers keys) below)

@@ -44,6 +44,11 @@ snapshot_up_to (suc n) below = Some (body_bytes (snapshot_of below))
 abbrev pub snapshot_below : List Entry → Option (List ℕ)
 snapshot_below below = snapshot_up_to (length below) below
 
+-- There is a ledger whose entries up to its base this snapshot stands for. Without a snapshot there
+-- are no such entries.
+abbrev pub HasLedger : Option (List ℕ) → Type 0
+HasLedger snapshot = (below : List Entry) × IsBase service_layers (body_of snapshot) below
+
 -- A ledger, whole from seqno 1, that the node's ledger stands for: the body of the snapshot tells
 -- of its entries up to the base, and those above are the node's.
 pub record IsHolding (node : NodeStore) (h : Holding Entry) : Type 0 where

@@ -1,8 +1,9 @@
 //! What one message carries of a ledger.
 
-ghost use Rattle.std.specs.Prelude.{◌≡◌, ◌≤◌, length, take, true, IfOk};
+ghost use Rattle.std.specs.Prelude.{◌≡◌, ◌≤◌, length, take, true, IsTrue, IfOk};
 ghost use Rattle.std.specs.List.{AllByRecursion};
 ghost use Rattle.gl_entry.specs.Entry.{is_entry};
+ghost use Rattle.gl_messages.specs.Message.{entries_fit};
 ghost use Rattle.gl_rules.specs.Replication.{batch, fitting_prefix};
 ghost use Rattle.gl_ledger.specs.LedgerBook.{ledger_book};
 ghost use Rattle.gl_ledger.specs.NodeKeys.{NodeKeys, service_layers};
@@ -63,8 +64,9 @@ fn copies(alloc: Global, entries: &[Entry]) -> Result<Vec<Entry>, AllocError>
 /// Copies of the first entries, as many as one message carries.
 pub(crate) fn batch(alloc: Global, entries: &[Entry]) -> Result<Vec<Entry>, AllocError>
     requires { AllByRecursion (λ e. is_entry e ≡ true) entries.now }
-    ensures { IfOk result (λ copies. (keys : NodeKeys) →
+    ensures value { IfOk result (λ copies. (keys : NodeKeys) →
         copies.items ≡ batch (ledger_book service_layers keys) entries.now) }
+    ensures fits { IfOk result (λ copies. IsTrue (entries_fit copies.items)) }
 {
     let count = batch_len(entries);
     copies(alloc, &entries[..count])

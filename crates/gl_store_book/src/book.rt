@@ -25,6 +25,7 @@ fn is_signature_of(entry: &Entry, view: u32) -> bool
 }
 
 impl Book for StoreBook {
+    ghost use Rattle.gl_answers.specs.Limits.{FitsGiven};
     ghost use Rattle.gl_store_book.specs.Stands.{Stands};
 
     type Request = Request;
@@ -38,6 +39,10 @@ impl Book for StoreBook {
     type Refused = Rejection;
 
     ghost stands = { Stands };
+
+    ghost fits = { FitsGiven };
+
+    ghost base_snapshot = { λ b. b.ledger.snapshot };
 
     fn me(&self) -> NodeId {
         self.me

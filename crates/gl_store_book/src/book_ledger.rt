@@ -11,7 +11,7 @@ ghost use Rattle.gl_audit.specs.Kept.{Breaks};
 ghost use Rattle.gl_audit.specs.GovState.{governed_up_to};
 ghost use Rattle.gl_ledger.specs.Behind.{IsBaseBody};
 ghost use Rattle.gl_store.specs.Tail.{Becomes, StandsBehind};
-ghost use Rattle.gl_store_book.specs.BasedLedgers.{IsAudited, base_of, body_of, broken_after, cut_to, governed_of, len_of, whole_ledger, past_of, with_entries};
+ghost use Rattle.gl_store_book.specs.BasedLedgers.{IsAudited, IsEncoded, base_of, body_of, broken_after, cut_to, governed_of, len_of, whole_ledger, past_of, with_entries};
 ghost use Rattle.gl_store_book.specs.Lists.{AreListsOf, configurations_behind, nodes_of};
 
 use crate::node_lists::NodeLists;
@@ -118,6 +118,7 @@ impl BookLedger {
         ensures len { result ≡ len_of self.now }
         ensures within { result < 2 ^ 40 }
         ensures valid { IsAudited self.now }
+        ensures spelled { IsEncoded self.now.snapshot }
     {
         prove!(self.tail.ledger_len() < 1 << 40);
         self.tail.ledger_len()

@@ -1,6 +1,6 @@
 //! The file of a node: its key, its view and vote, its ledger and its spent leaves.
 
-ghost use Rattle.std.specs.Prelude.{◌≡◌, ◌≢◌, ◌⊎◌, ◌≤◌, length, IsTrue, IfOk, IfErr, Ok, Err};
+ghost use Rattle.std.specs.Prelude.{◌≡◌, ◌≢◌, ◌⊎◌, ◌≤◌, IsTrue, IfOk, IfErr, Ok, Err};
 ghost use Rattle.gl_base.specs.declared.or_no_memory.OrNoMemory.{OrNoMemory};
 ghost use Rattle.gl_outside.specs.Fault.{Rose};
 ghost use Rattle.gl_outside.specs.Disk.{IsImage, Leaves};
@@ -10,7 +10,7 @@ ghost use Rattle.gl_journal.specs.Kept.{IsAtRest};
 ghost use Rattle.gl_journal.specs.declared.fault.JournalFault.{JournalFault};
 ghost use Rattle.gl_journal.specs.declared.key.KeyKind.{KeyKind};
 ghost use Rattle.gl_store_book.specs.Frames.{goes_on_ledger};
-ghost use Rattle.gl_store_book.specs.NodeFile.{IsOpened, opened, seen_state};
+ghost use Rattle.gl_store_book.specs.NodeFile.{IsOpened, StandsOnSnapshot, has_ledger, opened, seen_state};
 
 use gl_base::OrNoMemory;
 use gl_config::NodeId;
@@ -38,6 +38,7 @@ fn within_leaves(mut state: Durable<LedgerLog>) -> Durable<LedgerLog>
     ensures same { (seen_state state).reserved ≤ leaf_count (seen_state state) →
         seen_state result ≡ seen_state state }
     ensures key { (seen_state result).key ≡ (seen_state state).key }
+    ensures stands { StandsOnSnapshot state → StandsOnSnapshot result }
 {
     state.reserved = state.reserved.min(state.key.types.leaf_count());
     state
@@ -54,6 +55,7 @@ fn open_journal<D: Disk>(
         IsOpened D.honest D.bytes D.past found.0 (seen_state found.1)) }
     ensures within { IfOk result (λ found.
         (seen_state found.1).reserved ≤ leaf_count (seen_state found.1)) }
+    ensures stands { IfOk result (λ found. StandsOnSnapshot found.1) }
     ensures any_moment { IsTrue D.honest → HasGate journal_header (D.bytes disk) →
         IfOk result (λ found. Leaves (OpensToTheSame goes_on_ledger (D.bytes disk) (D.past disk))
         (D.past disk) (D.past found.0.gated.disk)) }
@@ -98,14 +100,13 @@ pub struct NodeFile<D: Disk + Drop> {
 }
 
 impl<D: Disk + Drop> Model for NodeFile<D> {
-    ghost use Rattle.gl_store_book.specs.NodeFile.{OpenFile, IsNodeFile, seen_state};
+    ghost use Rattle.gl_store_book.specs.NodeFile.{IsFileOfNode, OpenFile, seen_state};
 
     ghost Value = { OpenFile D };
 
     ghost view = { λ f. record { disk = f.journal.gated.disk; state = seen_state f.state } };
 
-    ghost invariant = { λ f. IsNodeFile D.honest D.bytes D.past f.journal (seen_state f.state)
-        f.key f.me };
+    ghost invariant = { λ f. IsFileOfNode D.honest D.bytes D.past f.journal f.state f.key f.me };
 }
 
 impl<D: Disk + Drop> NodeFile<D> {
@@ -202,11 +203,11 @@ impl<D: Disk + Drop> NodeFile<D> {
         self.me
     }
 
-    /// How many entries the ledger has that the file keeps.
-    pub fn ledger_len(&self) -> u64
-        ensures { result ≡ length self.now.state.log }
+    /// Whether the file has a ledger, or at least the snapshot behind which one begins.
+    pub fn has_ledger(&self) -> bool
+        ensures { result ≡ has_ledger self.now.state }
     {
-        self.state.log.len()
+        self.state.base > 0 || self.state.log.len() > 0
     }
 
     /// The disk, with the file on it.

@@ -132,7 +132,7 @@ impl WholeLedger {
     }
 
     /// The same ledger, as one with a base: that is 0.
-    pub fn into_ledger(self) -> BookLedger
+    pub(crate) fn into_ledger(self) -> BookLedger
         ensures ledger { result ≡ whole_ledger self }
     {
         self.ledger

@@ -83,7 +83,7 @@ fn begun(alloc: Global, from: &Core<StoreBook>) -> Option<Core<StoreBook>>
 }
 
 /// Its base, its last seqno, its commit and its view.
-fn place(core: &Core<StoreBook>) -> (u64, u64, u64, u32) {
+pub fn place(core: &Core<StoreBook>) -> (u64, u64, u64, u32) {
     (
         core.book.base(),
         core.book.ledger_len(),
@@ -118,11 +118,11 @@ fn text_of(alloc: Global, core: &Core<StoreBook>, view: u32, seqno: u64) -> Opti
 }
 
 /// Whether it gives the receipt of the evidence at 2.5 that is owed.
-fn shows_evidence(alloc: Global, core: &Core<StoreBook>, tail: &LedgerTail) -> bool {
+pub fn shows_evidence(alloc: Global, core: &Core<StoreBook>, tail: &LedgerTail) -> bool {
     is_same(text_of(alloc, core, 2, 5), receipt_text(alloc, tail))
 }
 
-fn refuses(core: &Core<StoreBook>, view: u32, seqno: u64, fault: MakeFault) -> bool {
+pub fn refuses(core: &Core<StoreBook>, view: u32, seqno: u64, fault: MakeFault) -> bool {
     match receipt_of(core, view, seqno) {
         Err(Some(why)) => why == fault,
         _ => false,

@@ -1,5 +1,6 @@
 //! Tests of snapshots: their bodies against what a program in Python says of the same ledger, a
-//! ledger and a node that begin behind one, and files of one that are whole, cut and changed.
+//! ledger and a node that begin behind one, also from its file, and files of a snapshot that are
+//! whole, cut and changed.
 #![tactic(auto)]
 
 #[cfg(test)]
@@ -14,3 +15,5 @@ mod joiner;
 mod ledger;
 #[cfg(test)]
 mod owed;
+#[cfg(test)]
+mod reopened;

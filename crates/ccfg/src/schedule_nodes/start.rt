@@ -116,7 +116,8 @@ fn keep_node(
     requires whole { core.now.book.ledger.snapshot ≡ None }
     requires few { length core.now.book.ledger.entries ≤ 2 }
     ensures { (state : State) → IsMemoryFile journal.old state → state.log ≡ [] →
-        state.view ≤ core.now.peer.view → OnOk result (IsMemoryFile journal.new (record state {
+        state.snapshot ≡ None → state.view ≤ core.now.peer.view →
+        OnOk result (IsMemoryFile journal.new (record state {
           view = core.now.peer.view;
           vote = core.now.peer.vote;
           has_vote_record = true;

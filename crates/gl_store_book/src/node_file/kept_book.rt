@@ -6,11 +6,13 @@ use gl_node::KeptBook;
 
 impl KeptBook for StoreBook {
     ghost use Rattle.gl_store_book.specs.Frames.{goes_on_ledger};
-    ghost use Rattle.gl_store_book.specs.Stands.{held_of, snapshot_below};
+    ghost use Rattle.gl_store_book.specs.Stands.{HasLedger, held_of, snapshot_below};
 
     ghost held = { λ b. held_of b.ledger };
 
     ghost snapshot_of = { snapshot_below };
+
+    ghost has_ledger = { HasLedger };
 
     ghost goes_on = { goes_on_ledger };
 

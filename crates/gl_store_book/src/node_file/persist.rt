@@ -1,6 +1,6 @@
 //! Records, kept in a node's file as one batch.
 
-ghost use Rattle.std.specs.Prelude.{ℕ, ◌≡◌, ◌⊎◌, ◌++◌, ◌<◌, ◌≤◌, ◌≢◌, ◌^◌, Some, Ok, Err, true, length, [], IsTrue, IsOk, IfOk, OnOk};
+ghost use Rattle.std.specs.Prelude.{ℕ, ◌≡◌, ◌⊎◌, ◌++◌, ◌<◌, ◌≤◌, ◌≢◌, ◌^◌, Some, Ok, Err, false, true, length, IsTrue, IsOk, IfOk, OnOk};
 ghost use Rattle.std.specs.List.{AllByRecursion, flat_map};
 ghost use Rattle.gl_base.specs.declared.or_no_memory.OrNoMemory.{OrNoMemory};
 ghost use Rattle.gl_entry.specs.Entry.{frame_bytes, is_entry};
@@ -14,7 +14,7 @@ ghost use Rattle.gl_journal.specs.Records.{records_bytes};
 ghost use Rattle.gl_journal.specs.declared.fault.JournalFault.{JournalFault};
 ghost use Rattle.gl_store_book.specs.AtOpening.{append_records, opened_state, opening_size};
 ghost use Rattle.gl_store_book.specs.Frames.{goes_on_ledger};
-ghost use Rattle.gl_store_book.specs.NodeFile.{IsOpened, node_of, opened, OpensOnlyTo, seen_state};
+ghost use Rattle.gl_store_book.specs.NodeFile.{IsOpened, has_ledger, node_of, opened, OpensOnlyTo, seen_state};
 ghost use Rattle.gl_store_book.specs.ServiceStart.{service_start, start_in};
 ghost use Rattle.gl_store_book.specs.ViewVotes.{IsOfOpening, IsTooLarge, IsViewVoteOf, view_vote_records};
 ghost use Rattle.gl_store_book.specs.declared.node_file.fault.OpeningFault.{OpeningFault};
@@ -104,7 +104,7 @@ pub(crate) fn keep_start<D: Disk>(
 ) -> Result<(OpeningLedger, ViewVote), OrNoMemory<OpeningFault>>
     requires file { IsOpened D.honest D.bytes D.past journal.old (seen_state state.now) }
     requires me { me.now ≡ node_of (seen_state state.now) }
-    requires none { (seen_state state.now).log ≡ [] }
+    requires none { has_ledger (seen_state state.now) ≡ false }
 
     ensures start { IfOk result (λ r.
         start_in bytes.now ≡ Ok (service_start r.0.ledger r.0.first)) }

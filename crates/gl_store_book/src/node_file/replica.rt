@@ -1,6 +1,6 @@
 //! The node of a file.
 
-ghost use Rattle.std.specs.Prelude.{◌≡◌, ◌≢◌, ◌<◌, ◌≤◌, ◌^◌, [], None, Ok, Err, ℕ, IsTrue, IsOk, IfOk, IfErr};
+ghost use Rattle.std.specs.Prelude.{◌≡◌, ◌≢◌, ◌<◌, ◌≤◌, ◌^◌, ◌++◌, List, None, Ok, Err, ℕ, false, length, IsTrue, IsOk, IfOk, IfErr};
 ghost use Rattle.gl_base.specs.declared.or_no_memory.OrNoMemory.{OrNoMemory};
 ghost use Rattle.gl_entry.specs.declared.entry.Entry.{Entry as Item};
 ghost use Rattle.gl_hss.specs.Types.{height};
@@ -16,14 +16,17 @@ ghost use Rattle.gl_ledger.specs.LedgerBook.{ledger_book};
 ghost use Rattle.gl_ledger.specs.NodeKeys.{NodeKeys, service_layers};
 ghost use Rattle.gl_replication.specs.Stands.{Reports, StandsFor, Turns};
 ghost use Rattle.gl_store_book.specs.AtOpening.{leads_at_opening, node_at_opening, opened_state, opening_size, restarted_node};
+ghost use Rattle.gl_ledger_base.specs.Ledgers.{IsBase};
+ghost use Rattle.gl_store_book.specs.BasedLedgers.{IsEncoded, body_of};
 ghost use Rattle.gl_store_book.specs.Frames.{goes_on_ledger};
-ghost use Rattle.gl_store_book.specs.NodeFile.{key_of, node_of, opened, seen_state};
-ghost use Rattle.gl_store_book.specs.Replicas.{StandsForFile};
+ghost use Rattle.gl_store_book.specs.NodeFile.{has_ledger, key_of, node_of, opened, seen_state};
+ghost use Rattle.gl_store_book.specs.Replicas.{StandsForFile, StandsForKey};
 ghost use Rattle.gl_store_book.specs.ServiceStart.{service_start, start_in};
 ghost use Rattle.gl_store_book.specs.Stands.{Stands};
 ghost use Rattle.gl_store_book.specs.ViewVotes.{IsOfOpening, IsTooLarge, IsViewVoteOf};
 ghost use Rattle.gl_store_book.specs.declared.node_file.fault.OpeningFault.{OpeningFault};
 
+use crate::book_ledger::BookLedger;
 use crate::node_file::NodeFile;
 use crate::node_file::fault::OpeningFault;
 use crate::node_file::ledger_log::LedgerLog;
@@ -31,7 +34,6 @@ use crate::node_file::opening_batch::ViewVote;
 use crate::node_file::opening_ledger::OpeningLedger;
 use crate::node_file::persist::keep_start;
 use crate::store_book::StoreBook;
-use crate::whole_ledger::WholeLedger;
 use gl_base::OrNoMemory;
 use gl_config::NodeId;
 use gl_election::Role;
@@ -55,30 +57,36 @@ fn restarted(
     alloc: Global,
     me: NodeId,
     key: LmsKey,
-    ledger: WholeLedger,
+    ledger: BookLedger,
     seat: Seat,
 ) -> Core<StoreBook>
-    ensures { (keys : NodeKeys) → keys.key_of me ≡ key → seat.reserved ≤ 2 ^ height key.types →
+    requires { IsEncoded ledger.snapshot }
+    ensures stands { (keys : NodeKeys) → keys.key_of me ≡ key →
+        seat.reserved ≤ 2 ^ height key.types → (below : List Item) →
+        IsBase service_layers (body_of ledger.snapshot) below →
         StandsFor Stands result (ledger_book service_layers keys) me
         (restart (ledger_book service_layers keys) (record joiner {
           view = seat.view;
           vote = seat.vote;
-          log = ledger;
+          log = below ++ ledger.entries;
+          base = length below;
           reserved = seat.reserved;
         })).node }
+    ensures snapshot { result.book.ledger.snapshot ≡ ledger.snapshot }
 {
     let book = StoreBook {
         alloc,
         me,
         key,
-        ledger: ledger.into_ledger(),
+        ledger,
     };
     Core::reopened(alloc, book, seat.view, seat.vote, u64::from(seat.reserved))
 }
 
 /// The node leads, from the end of its ledger on.
 fn begin_leading(core: &mut Core<StoreBook>)
-    ensures { Turns Stands (λ b n. become_leader n) core.old core.new }
+    ensures turns { Turns Stands (λ b n. become_leader n) core.old core.new }
+    ensures snapshot { core.new.book.ledger.snapshot ≡ core.old.book.ledger.snapshot }
 {
     core.peer.role = Role::Leader;
     core.start = core.book.ledger.len() + 1;
@@ -88,7 +96,9 @@ fn begin_leading(core: &mut Core<StoreBook>)
 
 /// The same node, which leads if it is to.
 fn leading_if(core: Core<StoreBook>, leads: bool) -> Core<StoreBook>
-    ensures { Reports Stands core (λ b x n. StandsFor Stands result b x (lead_if b leads n)) }
+    ensures stands { Reports Stands core (λ b x n.
+        StandsFor Stands result b x (lead_if b leads n)) }
+    ensures snapshot { result.book.ledger.snapshot ≡ core.book.ledger.snapshot }
 {
     let mut core = core;
     if leads {
@@ -126,8 +136,9 @@ fn opened_core(
     requires within { (seen_state state.now).reserved ≤ leaf_count (seen_state state.now) }
     requires turn { IsViewVoteOf (service_start opening.ledger opening.first) (seen_state state.now)
         turn }
-    ensures { StandsForFile (seen_state state.now) result (λ b. node_at_opening b
+    ensures stands { StandsForKey (seen_state state.now) result (λ b. node_at_opening b
         (service_start opening.ledger opening.first) (seen_state state.now)) }
+    ensures snapshot { result.book.ledger.snapshot ≡ None }
 {
     let leads = leads_at_opening(state, &me, &opening);
     prove!(opening.ledger.len() < 1 << 40);
@@ -136,15 +147,20 @@ fn opened_core(
         vote: turn.vote,
         reserved: state.reserved,
     };
-    leading_if(restarted(alloc, me, key, opening.ledger, seat), leads)
+    let ledger = opening.ledger.into_ledger();
+    leading_if(restarted(alloc, me, key, ledger, seat), leads)
 }
 
 impl<D: Disk + Drop> NodeFile<D> {
-    /// The node of the file, as a restart leaves it: a follower of what the file keeps. One whose
-    /// file keeps no ledger joins. Fails only where memory runs out, and gives the disk back.
+    /// The node of the file, as a restart leaves it: a follower of what the file keeps, behind its
+    /// snapshot if it has one. One whose file keeps no ledger joins. Fails only where memory runs
+    /// out, and gives the disk back.
     pub fn reopen(self) -> Result<Replica<D, StoreBook>, (AllocError, D)>
         ensures stands { IfOk result (λ replica.
-            StandsForFile self.state replica.core (λ b. restarted_node b self.state)) }
+            StandsForFile self.state replica.core
+            (λ b below. restarted_node b below self.state)) }
+        ensures snapshot { IfOk result (λ replica.
+            replica.core.book.ledger.snapshot ≡ self.state.snapshot) }
         ensures same { IfOk result (λ replica. replica.disk ≡ self.disk) }
         ensures serves { IfOk result (λ replica. replica.stopped ≡ None) }
         ensures err { IfErr result (λ e. e.1 ≡ self.disk) }
@@ -173,11 +189,12 @@ impl<D: Disk + Drop> NodeFile<D> {
     /// file tells the start of a service, no leaf was spent since, and it keeps no vote; each other
     /// one follows. An error gives the disk back.
     pub fn begin(self, bytes: &[u8]) -> Result<Replica<D, StoreBook>, (OrNoMemory<OpeningFault>, D)>
-        requires { self.state.log ≡ [] }
+        requires { has_ledger self.state ≡ false }
 
         ensures start { IfOk result (λ replica. IsOk (start_in bytes.now)) }
         ensures stands { (s : Start Item) → start_in bytes.now ≡ Ok s → IfOk result (λ replica.
-            StandsForFile self.state replica.core (λ b. node_at_opening b s self.state)) }
+            StandsForFile self.state replica.core (λ b below. node_at_opening b s self.state)) }
+        ensures snapshot { IfOk result (λ replica. replica.core.book.ledger.snapshot ≡ None) }
         ensures serves { IfOk result (λ replica. replica.stopped ≡ None) }
 
         // The file keeps it then, whatever comes.

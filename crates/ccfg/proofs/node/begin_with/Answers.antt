@@ -1,7 +1,8 @@
-use Rattle.std.proofs.Common.{◌≡◌, ◌≢◌, [], refl, rules, sym, ap, ◌∙◌}
-use Rattle.ccfg.specs.Nodes.{opened_by}
-use Rattle.ccfg.proofs.Beginnings.{begins_with, from_ok, refused_with}
-use Rattle.ccfg.proofs.NodeMoments.{by_stop, keeps_opening, opening_moments, reopened_disk, reopened_moments}
+use Rattle.std.proofs.Common.{◌≡◌, ◌≢◌, [], refl, rules, sym, ap, subst, ◌∙◌}
+use Rattle.gl_store_book.specs.Stands.{HasLedger as IsOfLedger}
+use Rattle.ccfg.specs.Nodes.{opened_by, reopened}
+use Rattle.ccfg.proofs.Beginnings.{begins_empty, begins_with, from_ok, of_none, ok_map, refused_with}
+use Rattle.ccfg.proofs.NodeMoments.{by_stop, keeps_at_rest, keeps_opening, opening_moments, reopened_disk, reopened_moments}
 use Rattle.ccfg.proofs.node.begin_with.Goals as goal
 
 pub returns-in-Ok-clause-begins : goal.returns-in-Ok-clause-begins
@@ -10,7 +11,7 @@ returns-in-Ok-clause-begins g c =
     let s = started.0 in
     let e = started.1 in
     let some : c.args.given.now ≢ [] = search rules in
-    (opened_by s c.args.file.state, begins_with c.args.file.state c.args.given.now s c.requires.none some e (c.in-Ok.ensures.fits s e), record { stands = c.in-Ok.ensures.stands s e; going = c.in-Ok.ensures.serves; keeps = λ honest. c.in-Ok.ensures.kept honest s e; at_rest = λ honest. c.in-Ok.ensures.at_rest honest s e })
+    (opened_by s c.args.file.state, begins_with c.args.file.state c.args.given.now s c.requires.none some e (c.in-Ok.ensures.fits s e), record { stands = c.in-Ok.ensures.stands s e; ledger = λ of. subst IsOfLedger (sym c.in-Ok.ensures.snapshot) of_none; going = c.in-Ok.ensures.serves; keeps = λ honest. c.in-Ok.ensures.kept honest s e; at_rest = λ honest. c.in-Ok.ensures.at_rest honest s e })
 
 pub returns-in-Err-clause-refused : goal.returns-in-Err-clause-refused
 returns-in-Err-clause-refused g c fault back e =
@@ -48,6 +49,16 @@ returns-in-Err-clause-any_moment g c honest =
     opening_moments started.0 c.args.file.state _ _ c.requires.none (c.in-Err.ensures.any_moment_err honest started.0 started.1))
     (λ other. reopened_moments c.args.file.state (g.D.Disk.bytes c.args.file.disk) _ _ (c.requires.at_rest honest) (c.requires.kept honest)
     (c.in-Err.ensures.stays honest c.in-Err.error c.in-Err.disk refl (λ is. other (c.stop_of.ensures.disk is))).1)
+
+pub returns-then-is_empty-clause-begins : goal.returns-then-is_empty-clause-begins
+returns-then-is_empty-clause-begins g c =
+    let d = c.args.file.state in
+    let given = c.args.given.now in
+    ok_map c.reopen.result (λ replica began. (reopened d, begins_empty d given c.requires.none (sym c.is_empty.ensures ∙ c.if-is_empty.true), began)) c.reopen.ensures.begins
+
+pub returns-then-is_empty-clause-spent : goal.returns-then-is_empty-clause-spent
+returns-then-is_empty-clause-spent g c honest =
+    ok_map c.reopen.result (λ replica began. keeps_at_rest c.args.file.state (g.D.Disk.bytes replica.disk) (g.D.Disk.past replica.disk) (began.at_rest honest) (began.keeps honest)) c.reopen.ensures.begins
 
 pub returns-then-is_empty-clause-any_moment : goal.returns-then-is_empty-clause-any_moment
 returns-then-is_empty-clause-any_moment g c honest =

@@ -4,6 +4,7 @@ use Rattle.ccfg.proofs.Beginnings.{not_foreign}
 use Rattle.ccfg.proofs.NodeMoments.{later_moments, unserved_moments}
 use Rattle.ccfg.specs.Run.{disk_run, link_run, sink_run, source_run}
 use Rattle.ccfg.proofs.NodeRuns.{keeps_same, serves_so, stops_so}
+use Rattle.ccfg.proofs.NodeStarts.{serves_ledger}
 use Rattle.ccfg.proofs.node.run_node.Goals as goal
 
 pub returns-in-Ok-clause-runs : goal.returns-in-Ok-clause-runs
@@ -47,14 +48,15 @@ returns-in-Err-clause-runs g c =
     (λ is. let t = printed.memory is in (t.0, keeps_same _ _ (ap g.K.Sink.holds t.1)))
 
 pub returns-in-Ok-clause-any_moment : goal.returns-in-Ok-clause-any_moment
-returns-in-Ok-clause-any_moment g c honest gate =
+returns-in-Ok-clause-any_moment g c honest gate of =
     let spent = c.in-Ok.ensures.spent honest in
     let keeps = spent.2 in
+    let ledger = serves_ledger g.D.Disk.honest g.D.Disk.bytes g.D.Disk.past g.D.Disk.faults c.in-Ok.replica g.D.Disk.honest (g.D.Disk.bytes c.args.disk) (g.S.Source.left c.args.source.now) (g.S.Source.ended c.open.new.source) honest of c.in-Ok.ensures.begins in
     later_moments (g.D.Disk.bytes c.args.disk) _ _ _ spent.0 keeps.1 spent.1 keeps.3 keeps.4
-    (unserved_moments (g.D.Disk.bytes c.args.disk) _ _ (c.in-Ok.ensures.any_moment honest gate)) (c.serve_replica-end.ensures.any_moment honest keeps.1 keeps.2)
+    (unserved_moments (g.D.Disk.bytes c.args.disk) _ _ (c.in-Ok.ensures.any_moment honest gate)) (c.serve_replica-end.ensures.any_moment honest ledger keeps.1 keeps.2)
 
 pub returns-in-Err-clause-any_moment : goal.returns-in-Err-clause-any_moment
-returns-in-Err-clause-any_moment g c honest gate = unserved_moments (g.D.Disk.bytes c.args.disk) _ _ (c.in-Err.ensures.any_moment honest gate)
+returns-in-Err-clause-any_moment g c honest gate of = unserved_moments (g.D.Disk.bytes c.args.disk) _ _ (c.in-Err.ensures.any_moment honest gate)
 
 pub returns-in-Ok-clause-quiet : goal.returns-in-Ok-clause-quiet
 returns-in-Ok-clause-quiet g c other = c.in-Ok.ensures.source_quiet (λ back is. cc)

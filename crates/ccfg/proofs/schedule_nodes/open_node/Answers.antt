@@ -11,4 +11,5 @@ returns-in-Ok-clause-opens c =
       there.0,
       record { opens = ap (λ (d : HeldDisk). opened d.bytes) c.in-Ok.ensures.same ∙ there.1.opens; kind = there.1.kind },
       c.in-Ok.ensures.stands,
+      c.in-Ok.ensures.snapshot,
     )

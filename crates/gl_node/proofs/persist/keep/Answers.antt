@@ -18,7 +18,7 @@ returns-clause-kept g c h d opens change =
     let first = c.put_vote.ensures.folds goes_on d d none change.view change.vote change.rises in
     let second = c.put_cut.ensures.folds goes_on d voted first change.len change.above change.within in
     let third = c.put_appends.ensures.folds goes_on d (record voted { log = cut }) second (subst (EachGoesOn goes_on d.snapshot) change.log change.follow) in
-    let fourth = c.put_signer.ensures.folds goes_on d (record voted { log = cut ++ items_of c.args.frames.now }) third change.reserved change.more change.leaves in
+    let fourth = c.put_signer.ensures.folds goes_on d (record voted { log = cut ++ items_of c.args.frames.now }) third change.reserved change.more change.leaves change.few in
     let log : List (List ℕ) → Durable = λ l. record voted { log = l; reserved = core.leaves.reserved } in
     let all : Folds goes_on c.deref.result.now d (kept_of g.B.KeptBook.held d core) =
     subst (λ (l : List Record). Folds goes_on l d (kept_of g.B.KeptBook.held d core)) (sym c.deref.ensures.value)
@@ -35,7 +35,7 @@ returns-clause-after g c h d opens change =
     let first = c.put_vote.ensures.folds goes_on d d none change.view change.vote change.rises in
     let second = c.put_cut.ensures.folds goes_on d voted first change.len change.above change.within in
     let third = c.put_appends.ensures.folds goes_on d (record voted { log = cut }) second (subst (EachGoesOn goes_on d.snapshot) change.log change.follow) in
-    let fourth = c.put_signer.ensures.folds goes_on d (record voted { log = cut ++ items_of c.args.frames.now }) third change.reserved change.more change.leaves in
+    let fourth = c.put_signer.ensures.folds goes_on d (record voted { log = cut ++ items_of c.args.frames.now }) third change.reserved change.more change.leaves change.few in
     let log : List (List ℕ) → Durable = λ l. record voted { log = l; reserved = core.leaves.reserved } in
     let all : Folds goes_on c.deref.result.now d (kept_of g.B.KeptBook.held d core) =
     subst (λ (l : List Record). Folds goes_on l d (kept_of g.B.KeptBook.held d core)) (sym c.deref.ensures.value)
@@ -52,7 +52,7 @@ returns-clause-any_moment g c h d opens change =
     let first = c.put_vote.ensures.folds goes_on d d none change.view change.vote change.rises in
     let second = c.put_cut.ensures.folds goes_on d voted first change.len change.above change.within in
     let third = c.put_appends.ensures.folds goes_on d (record voted { log = cut }) second (subst (EachGoesOn goes_on d.snapshot) change.log change.follow) in
-    let fourth = c.put_signer.ensures.folds goes_on d (record voted { log = cut ++ items_of c.args.frames.now }) third change.reserved change.more change.leaves in
+    let fourth = c.put_signer.ensures.folds goes_on d (record voted { log = cut ++ items_of c.args.frames.now }) third change.reserved change.more change.leaves change.few in
     let log : List (List ℕ) → Durable = λ l. record voted { log = l; reserved = core.leaves.reserved } in
     let all : Folds goes_on c.deref.result.now d (kept_of g.B.KeptBook.held d core) =
     subst (λ (l : List Record). Folds goes_on l d (kept_of g.B.KeptBook.held d core)) (sym c.deref.ensures.value)

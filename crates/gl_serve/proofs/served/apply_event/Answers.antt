@@ -1,14 +1,11 @@
 use Rattle.std.proofs.lemmas.Result.{IfOk-weaker}
-use Rattle.gl_serve.proofs.EventAnswers.{happens_from, is_accepted, sent_fits}
+use Rattle.gl_answers.specs.Limits.{FitsGiven}
+use Rattle.gl_serve.proofs.EventAnswers.{accepted_wider, happens_from}
 use Rattle.gl_serve.proofs.served.apply_event.Goals as goal
-
-pub returns-clause-fits : goal.returns-clause-fits
-returns-clause-fits g c =
-    IfOk-weaker c.event.result _ _ (λ done steps. sent_fits g.B.Book.stands c.args.event c.args.replica.now c.event.new.self _ c.core.ensures.core c.keeps_limits.ensures c.core.ensures.some done steps) c.event.ensures.steps
 
 pub returns-clause-accepted : goal.returns-clause-accepted
 returns-clause-accepted g c =
-    IfOk-weaker c.event.result _ _ (λ done steps. is_accepted g.B.Book.stands c.args.event c.args.replica.now c.event.new.self _ c.core.ensures.core c.keeps_limits.ensures c.core.ensures.some done steps) c.event.ensures.steps
+    IfOk-weaker c.event.result _ _ (λ done is asked. accepted_wider g.B.Book.fits FitsGiven c.keeps_limits.ensures done.outcome (is asked)) c.event.ensures.accepted
 
 pub returns-clause-happens : goal.returns-clause-happens
 returns-clause-happens g c =

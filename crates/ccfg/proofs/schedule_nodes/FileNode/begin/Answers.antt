@@ -6,7 +6,9 @@ use Rattle.gl_rules.specs.World.{node_at_start}
 use Rattle.gl_world.specs.Founding.{id_of}
 use Rattle.gl_world.specs.Group.{book_of}
 use Rattle.gl_world.specs.World.{start_of}
+use Rattle.gl_store_book.specs.Stands.{HasLedger}
 use Rattle.ccfg.specs.FileNodes.{IsFileNode, IsMemoryFile, SeenFileNode, StandsOverFile}
+use Rattle.ccfg.proofs.Beginnings.{of_none}
 use Rattle.ccfg.proofs.FileNodes.{file_kept}
 use Rattle.ccfg.proofs.FileStarts.{few_at_start, whole_at_start, file_at_start, first_view_at_start, leaf_at_start, serving_at_start, state_at_start, state_with}
 use Rattle.ccfg.proofs.schedule_nodes.FileNode.begin.Goals as goal
@@ -32,16 +34,26 @@ keep_node-requires-clause-whole c = whole_at_start c.args.settings.now (id_of c.
 pub keep_node-requires-clause-few : goal.keep_node-requires-clause-few
 keep_node-requires-clause-few c = few_at_start c.args.settings.now (id_of c.args.settings.now c.args.number) c.args.core c.requires.core
 
-pub new-requires : goal.new-requires
-new-requires c =
+pub new-requires-clause-serving : goal.new-requires-clause-serving
+new-requires-clause-serving c some =
     let s = c.args.settings.now in
     let x = id_of s c.args.number in
     let alone = key_alone (record { kind = kinds.Node; types = H5W4; seed = c.node_seed.result }) in
     let one = leaf_at_start s x c.args.core c.requires.core in
     let leaves = c.in_ok-keep_leaves.ensures alone c.in_ok-journal.ensures (omega arith) (omega (arith, one)) in
-    let kept = c.in_ok-keep_node.ensures (record alone { reserved = c.args.core.leaves.reserved }) leaves refl (first_view_at_start s x c.args.core c.requires.core) in
+    let kept = c.in_ok-keep_node.ensures (record alone { reserved = c.args.core.leaves.reserved }) leaves refl refl (first_view_at_start s x c.args.core c.requires.core) in
     let file = subst (λ (seed : List ℕ). IsMemoryFile c.keep_node.new.journal (state_with seed c.args.core)) c.node_seed.ensures kept in
     serving_at_start s c.requires.group c.args.number c.requires.low c.requires.high c.args.core c.keep_node.new.journal (node_at_start (start_of s) x) c.requires.core (whole_at_start s x c.args.core c.requires.core) file
+
+pub new-requires-clause-settled : goal.new-requires-clause-settled
+new-requires-clause-settled c honest =
+    let s = c.args.settings.now in
+    let x = id_of s c.args.number in
+    let alone = key_alone (record { kind = kinds.Node; types = H5W4; seed = c.node_seed.result }) in
+    let one = leaf_at_start s x c.args.core c.requires.core in
+    let leaves = c.in_ok-keep_leaves.ensures alone c.in_ok-journal.ensures (omega arith) (omega (arith, one)) in
+    let kept = c.in_ok-keep_node.ensures (record alone { reserved = c.args.core.leaves.reserved }) leaves refl refl (first_view_at_start s x c.args.core c.requires.core) in
+    kept.kept honest
 
 pub invariant_of-result : goal.invariant_of-result
 invariant_of-result c =
@@ -50,8 +62,8 @@ invariant_of-result c =
     let alone = key_alone (record { kind = kinds.Node; types = H5W4; seed = c.node_seed.result }) in
     let one = leaf_at_start s x c.args.core c.requires.core in
     let leaves = c.in_ok-keep_leaves.ensures alone c.in_ok-journal.ensures (omega arith) (omega (arith, one)) in
-    let kept = c.in_ok-keep_node.ensures (record alone { reserved = c.args.core.leaves.reserved }) leaves refl (first_view_at_start s x c.args.core c.requires.core) in
-    subst IsFileNode (sym c.new.ensures) (record { serves = refl; state = state_with c.node_seed.result c.args.core; file = record { opens = kept.opens refl; kind = refl } })
+    let kept = c.in_ok-keep_node.ensures (record alone { reserved = c.args.core.leaves.reserved }) leaves refl refl (first_view_at_start s x c.args.core c.requires.core) in
+    subst IsFileNode (sym c.new.ensures) (record { serves = refl; ledger = subst HasLedger (sym (whole_at_start s x c.args.core c.requires.core)) of_none; state = state_with c.node_seed.result c.args.core; file = record { opens = kept.opens refl; kind = refl } })
 
 pub returns : goal.returns
 returns c =
@@ -60,7 +72,7 @@ returns c =
     let alone = key_alone (record { kind = kinds.Node; types = H5W4; seed = c.node_seed.result }) in
     let one = leaf_at_start s x c.args.core c.requires.core in
     let leaves = c.in_ok-keep_leaves.ensures alone c.in_ok-journal.ensures (omega arith) (omega (arith, one)) in
-    let kept = c.in_ok-keep_node.ensures (record alone { reserved = c.args.core.leaves.reserved }) leaves refl (first_view_at_start s x c.args.core c.requires.core) in
+    let kept = c.in_ok-keep_node.ensures (record alone { reserved = c.args.core.leaves.reserved }) leaves refl refl (first_view_at_start s x c.args.core c.requires.core) in
     let file = subst (λ (seed : List ℕ). IsMemoryFile c.keep_node.new.journal (state_with seed c.args.core)) c.node_seed.ensures kept in
     subst (λ (f : SeenFileNode). StandsOverFile f (book_of s) x (node_at_start (start_of s) x)) (sym c.new.ensures) (record {
       core = c.requires.core;

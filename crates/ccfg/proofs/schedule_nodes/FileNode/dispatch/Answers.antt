@@ -13,7 +13,7 @@ unreachable-requires c = never_rose (c.event.ensures.disk_fault (err_as c.event.
 pub invariant_of-self : goal.invariant_of-self
 invariant_of-self c =
     serves_on c.args.event c.self.inside.replica c.event.new.self c.self.invariant c.core-core.ensures.some (c.in-Ok.ensures.kept refl)
-    (c.in-Ok.ensures.no_disk_fault (λ e. absurd cc)).1
+    (c.in-Ok.ensures.no_disk_fault (λ e. absurd cc)).1 c.event.ensures.snapshot
 
 pub invariant_of-self-in-Err-Refused : goal.invariant_of-self-in-Err-Refused
 invariant_of-self-in-Err-Refused c =
@@ -21,7 +21,7 @@ invariant_of-self-in-Err-Refused c =
     let old = c.self.inside.replica in
     let new = c.event.new.self in
     let same = on_refused c.event.result r.field-0 r.why r.is r.field-0-is (λ why. (new.disk.bytes ≡ old.disk.bytes) × (new.disk.past ≡ old.disk.past)) (c.event.ensures.same refl) in
-    refuses_on old new c.self.invariant same.0 (c.event.ensures.no_disk_fault (no_fault c.event.result r.field-0 r.why r.is r.field-0-is)).1
+    refuses_on old new c.self.invariant same.0 (c.event.ensures.no_disk_fault (no_fault c.event.result r.field-0 r.why r.is r.field-0-is)).1 c.event.ensures.snapshot
 
 pub returns-in-Ok-clause-steps : goal.returns-in-Ok-clause-steps
 returns-in-Ok-clause-steps c =

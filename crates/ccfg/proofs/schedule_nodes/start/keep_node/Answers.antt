@@ -7,7 +7,6 @@ use Rattle.gl_ledger.specs.NodeKeys.{service_layers}
 use Rattle.gl_ledger.proofs.Valid.{valid_sound}
 use Rattle.gl_store_book.specs.AtOpening.{append_records}
 use Rattle.gl_store_book.specs.BasedLedgers.{IsAudited}
-use Rattle.gl_store_book.proofs.FoldedStates.{durable_ordered}
 use Rattle.gl_store_book.specs.Frames.{goes_on_ledger}
 use Rattle.gl_store_book.specs.ViewVotes.{view_vote_records}
 use Rattle.gl_store_book.specs.declared.node_file.fault.OpeningFault.TheVariants as faults
@@ -39,12 +38,11 @@ only_memory-requires c = λ fault is.
     (c.keep_opening.ensures.only fault e)
 
 pub returns-in-Ok : goal.returns-in-Ok
-returns-in-Ok c = λ state here none low.
+returns-in-Ok c = λ state here none behind low.
     let core = c.args.core.now in
     let ledger = core.book.ledger.entries in
     let all : c.entries_of-entries.result.now ≡ ledger = c.entries_of-entries.ensures.entries in
     let valid = subst (λ (o : Option (List ℕ)). IsAudited (record { snapshot = o; entries = ledger })) c.requires.whole c.entries_of-entries.ensures.valid in
-    let behind = (durable_ordered goes_on_ledger (λ body. refl) _ state (here.opens refl)).snapshot in
     let folds =
     ap (λ (t : ViewVote). fold_records goes_on_ledger state (view_vote_records t ++ append_records c.entries_of-entries.result.now)) c.turn_of-turn.ensures.turn
     ∙ ap (λ (l : List Entry). fold_records goes_on_ledger state (Vote core.peer.view core.peer.vote ∷ append_records l)) all

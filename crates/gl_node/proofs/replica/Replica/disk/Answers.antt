@@ -1,7 +1,6 @@
 use Rattle.std.proofs.Common.{◌≡◌, None, subst, ap, ◌∙◌}
 use Rattle.gl_journal.specs.Kept.{IsAtRest}
 use Rattle.gl_journal.proofs.UnwrittenFiles.{at_rest}
-use Rattle.gl_node.specs.Persistence.{IsReplica}
 use Rattle.gl_node.specs.Seen.{Seen}
 use Rattle.gl_node.proofs.replica.Replica.disk.Goals as goal
 
@@ -9,5 +8,4 @@ pub returns-clause-at_rest : goal.returns-clause-at_rest
 returns-clause-at_rest g c = λ honest going.
     let i = c.self.inside in
     let none : i.stopped ≡ None = ap (λ (v : Seen _ _ _ _ _ _ _). v.stopped) c.self.view_is ∙ going in
-    let serving = subst (IsReplica g.B.Book.stands g.B.KeptBook.held g.B.KeptBook.snapshot_of g.B.KeptBook.goes_on g.D.Disk.honest g.D.Disk.bytes g.D.Disk.past i.core i.journal) none c.self.invariant in
-    subst (λ (v : Seen _ _ _ _ _ _ _). IsAtRest (g.D.Disk.bytes v.disk) (g.D.Disk.past v.disk)) c.self.view_is (at_rest g.D.Disk.bytes g.D.Disk.past i.journal (serving.file honest).kept)
+    subst (λ (v : Seen _ _ _ _ _ _ _). IsAtRest (g.D.Disk.bytes v.disk) (g.D.Disk.past v.disk)) c.self.view_is (at_rest g.D.Disk.bytes g.D.Disk.past i.journal (c.self.invariant.settled honest none))

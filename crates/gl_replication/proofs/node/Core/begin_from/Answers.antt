@@ -13,7 +13,7 @@ returns-then-view-self-clause-begun g c = λ b x n s log shown.
     let view : c.view_at-view.result ≡ view_at b log (length log) = c.view_at-view.ensures b _ ledger ∙ ap (view_at b log) len in
     subst (λ (m : Node Entry). StandsFor g.B.Book.stands c.begin_view.new.self b x m)
     (begun_later b log n c.view_at-view.result (c.requires.empty b _ s.ledger) view (omega (arith, c.if-view-self.true, ap (λ (m : Node Entry). m.view) s.same)))
-    (c.begin_view.ensures b x _ (installed g.B.Book.stands s c.install.new.self c.ledger_len-self.result log len ledger))
+    (c.begin_view.ensures.turns b x _ (installed g.B.Book.stands s c.install.new.self c.ledger_len-self.result log len ledger))
 
 pub returns-else-view-self-clause-begun : goal.returns-else-view-self-clause-begun
 returns-else-view-self-clause-begun g c = λ b x n s log shown.

@@ -20,4 +20,6 @@ returns-in_default g c = record {
   refused = refuses_denied g.B.Book.stands (λ b x n. govern b c.args.request.now n) (λ b x n. govern_as_leader b c.args.request.now n) (λ b x n. refl) c.in_default.not-Leader;
   err = λ b x n s. s;
   quiet = tt;
+  accepted = tt;
+  snapshot = refl;
 }

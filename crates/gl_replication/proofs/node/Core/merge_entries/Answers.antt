@@ -18,8 +18,8 @@ returns-then-held-entries-clause-steps g c = λ b x n s.
     let low = low_of g.B.Book.stands s c.args.view c.requires.view in
     subst (λ (m : Step Entry g.row.B-Response.Denot g.row.B-Refused.Denot). Stepped g.B.Book.stands b x m c.accept_entries.result c.accept_entries.new.self)
     (sym (all_held b c.args.y c.args.view n low x c.args.len c.args.prev c.args.entries.now c.args.held c.args.theirs h.0 h.1 c.if-held-entries.true))
-    (accepted g.B.Book.stands c.args.y c.args.view (c.args.prev + length c.args.entries.now) c.args.theirs (become_follower b c.args.y (update_view b c.args.view n)) c.accept_entries.result (c.accept_entries.ensures.0 b x _ (c.become_follower.ensures b x n s))
-    (ap seen_outcome c.accept_entries.ensures.1) (ap (map seen_message) c.accept_entries.ensures.2 ∙ c.in-Ok.ensures.value b x n s) (view_is b c.args.y c.args.view n low))
+    (accepted g.B.Book.stands c.args.y c.args.view (c.args.prev + length c.args.entries.now) c.args.theirs (become_follower b c.args.y (update_view b c.args.view n)) c.accept_entries.result (c.accept_entries.ensures.replies.0 b x _ (c.become_follower.ensures.turns b x n s))
+    (ap seen_outcome c.accept_entries.ensures.replies.1) (ap (map seen_message) c.accept_entries.ensures.replies.2 ∙ c.in-Ok.ensures.value b x n s) (view_is b c.args.y c.args.view n low))
 
 pub returns-then-is_cut_below-clause-refused : goal.returns-then-is_cut_below-clause-refused
 returns-then-is_cut_below-clause-refused g c = λ b x n s.
@@ -50,5 +50,5 @@ returns-clause-steps g c = λ b x n s.
     (sym (c.is_cut_below.ensures.value b x n s) ∙ c.if-is_cut_below.false)
     c.requires.within.0 (Ok r.0) (ap (checked_append b n.base (take (c.args.prev + c.args.held) n.log)) (sym (rest_is c.args.held c.args.entries.now)) ∙ r.1)))
     (accepted g.B.Book.stands c.args.y c.args.view (c.args.prev + length c.args.entries.now) c.args.theirs (record (cut_to (c.args.prev + c.args.held) (become_follower b c.args.y (update_view b c.args.view n))) { log = r.0 }) c.accept_entries-in-Ok-replace_tail.result
-    (c.accept_entries-in-Ok-replace_tail.ensures.0 b x _ r.2)
-    (ap seen_outcome c.accept_entries-in-Ok-replace_tail.ensures.1) (ap (map seen_message) c.accept_entries-in-Ok-replace_tail.ensures.2 ∙ c.in-Ok.ensures.value b x n s) (view_is b c.args.y c.args.view n low))
+    (c.accept_entries-in-Ok-replace_tail.ensures.replies.0 b x _ r.2)
+    (ap seen_outcome c.accept_entries-in-Ok-replace_tail.ensures.replies.1) (ap (map seen_message) c.accept_entries-in-Ok-replace_tail.ensures.replies.2 ∙ c.in-Ok.ensures.value b x n s) (view_is b c.args.y c.args.view n low))

@@ -33,4 +33,4 @@ returns-in-Ok-clause-steps g c = λ b x n s.
     (other_is b x c.args.y c.args.view n (low_of g.B.Book.stands s c.args.view c.requires.view) (position c.args.prev) c.args.entries.now c.args.theirs c.len_in_view-len.result w
     (c.len_in_view-len.ensures.value b x n s) c.highest_possible_match-seqno.result (sym (c.is_matching.ensures.value b x n s w) ∙ c.if-is_matching.false)
     (c.highest_possible_match-seqno.ensures b x n s w (search rules) ∙ search rules))
-    (c.become_follower.ensures b x n s) refl (c.in-Ok.ensures.value b x n s)
+    (c.become_follower.ensures.turns b x n s) refl (c.in-Ok.ensures.value b x n s)

@@ -16,7 +16,7 @@ returns-then-view-self-clause-steps g c = λ b x n s.
     let v = ap (λ (m : Node Entry). m.view) s.same in
     stepped_as g.B.Book.stands (record { node = update_view b c.args.view n; sent = []; outcome = outcomes.Idle })
     (reply_above b x c.args.from c.args.view c.args.ok c.args.seqno n (omega (arith, c.if-view-self.true, v)))
-    (c.update_view.ensures b x n s) (ap seen_outcome c.idle.ensures.outcome) (ap (map seen_message) c.idle.ensures.quiet)
+    (c.update_view.ensures.turns b x n s) (ap seen_outcome c.idle.ensures.outcome) (ap (map seen_message) c.idle.ensures.quiet)
 
 pub returns-then-leads_in-clause-steps : goal.returns-then-leads_in-clause-steps
 returns-then-leads_in-clause-steps g c = if_ok c.update_progress.result (λ done k b x n s.

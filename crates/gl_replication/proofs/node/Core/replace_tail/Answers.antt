@@ -13,5 +13,5 @@ returns-in-Ok-clause-grown g c = λ b x n s.
       r.1,
       subst (λ (m : Node Entry). StandsFor g.B.Book.stands c.follow_in_view.new.self b x m)
           (replaced_is b c.args.y c.args.view c.args.len c.ledger_len-before.result c.args.seqno n r.0 (c.ledger_len-before.ensures.value b _ s.ledger) h.0 h.1)
-          (c.follow_in_view.ensures b x _ (c.count_cut-in-Ok.ensures b x _ (c.count_cut.ensures b x _ r.2))),
+          (c.follow_in_view.ensures.turns b x _ (c.count_cut-in-Ok.ensures.turns b x _ (c.count_cut.ensures.turns b x _ r.2))),
     )

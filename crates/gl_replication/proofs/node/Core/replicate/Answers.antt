@@ -21,4 +21,6 @@ returns-in_default g c = record {
   refused = refuses_denied g.B.Book.stands (λ b x n. replicate b x c.args.to n) (λ b x n. (if is_peer b x c.args.to n then send_append b x c.args.to (next_of b n c.args.to - 1) n else refuse n NotPeer)) (λ b x n. refl) c.in_default.not-Leader;
   err = λ b x n s. s;
   few = tt;
+  fits = tt;
+  snapshot = refl;
 }

@@ -20,4 +20,5 @@ returns-in_default g c = record {
   refused = refuses_denied g.B.Book.stands (λ b x n. sign b x n) (λ b x n. sign_as_leader b x n) (λ b x n. refl) c.in_default.not-Leader;
   err = λ b x n s. s;
   quiet = tt;
+  snapshot = refl;
 }

@@ -8,8 +8,8 @@ use Rattle.gl_store_book.proofs.AllLedgers.{book, reports}
 use Rattle.gl_store_book.proofs.BookTold.{batch_told, entries_shown, rest_all, tail_shown}
 use Rattle.gl_store_book.proofs.book.StoreBookBook.batch.Goals as goal
 
-pub returns : goal.returns
-returns c =
+pub returns-clause-value : goal.returns-clause-value
+returns-clause-value c =
     let node = c.args.self.now in
     let l = c.self.inside.ledger in
     let t = c.tail-tail.result.now in
@@ -22,4 +22,4 @@ returns c =
     is keys ∙ ap (λ (xs : List Entry). batch (book keys) xs) (rest_all c.saturating_sub-skipped.result c.entries.result.now)
     ∙ ap₂ (λ (n : ℕ) (xs : List Entry). batch (book keys) (drop n xs)) (c.saturating_sub-skipped.ensures ∙ ap (λ (n : ℕ). c.args.after - n) (c.base.ensures.base body shown)) all
     ∙ batch_told keys body node.ledger.entries log holds c.args.after low))
-    c.batch.ensures
+    c.batch.ensures.value

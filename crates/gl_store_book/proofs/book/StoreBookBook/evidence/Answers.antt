@@ -1,7 +1,8 @@
-use Rattle.std.proofs.Common.{ap}
+use Rattle.std.proofs.Common.{ap, ◌∙◌}
 use Rattle.std.proofs.lemmas.Result.{err_from_is_err_and}
 use Rattle.gl_base.specs.Answers.{Fails}
 use Rattle.gl_replication.specs.Standing.{At}
+use Rattle.gl_store_book.specs.BasedLedgers.{BasedLedger}
 use Rattle.gl_store_book.specs.Stands.{NodeStore, Stands}
 use Rattle.gl_store_book.proofs.BookTaken.{evidences, refuses_evidence}
 use Rattle.gl_store_book.proofs.book.StoreBookBook.evidence.Goals as goal
@@ -19,3 +20,6 @@ returns-clause-made c =
     let same = ap (λ (n : NodeStore). n.ledger) c.self.view_is in
     evidences c.args.self.now c.self.inside.ledger same c.len.ensures.valid (record { me = c.self.inside.me; key = c.self.inside.key; ledger = c.evidence.new.self }) c.evidence.new.self
     c.args.view (ap (λ (n : NodeStore). record n { ledger = c.evidence.new.self }) c.self.view_is) c.in_ok-evidence.ensures.made
+
+pub returns-clause-snapshot : goal.returns-clause-snapshot
+returns-clause-snapshot c = ap (λ (l : BasedLedger). l.snapshot) c.in_ok-evidence.ensures.made.entered ∙ ap (λ (n : NodeStore). n.ledger.snapshot) c.self.view_is

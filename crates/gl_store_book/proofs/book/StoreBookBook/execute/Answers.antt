@@ -1,10 +1,12 @@
-use Rattle.std.proofs.Common.{ap}
+use Rattle.std.proofs.Common.{ap, ◌∙◌}
 use Rattle.std.proofs.lemmas.Result.{err_from_is_err_and}
 use Rattle.gl_base.specs.Answers.{Fails}
 use Rattle.gl_ledger.specs.declared.response.Response.TheVariants.{Replied}
 use Rattle.gl_replication.specs.Standing.{At}
+use Rattle.gl_store_book.specs.BasedLedgers.{BasedLedger}
 use Rattle.gl_store_book.specs.Stands.{NodeStore, Stands}
 use Rattle.gl_store_book.proofs.BookTaken.{executes, refuses_execute}
+use Rattle.gl_store_book.proofs.TakenEntries.{executed_fits}
 use Rattle.gl_store_book.proofs.book.StoreBookBook.execute.Goals as goal
 
 pub returns-in_err-reply-clause-refused : goal.returns-in_err-reply-clause-refused
@@ -20,3 +22,10 @@ returns-clause-made c =
     let same = ap (λ (n : NodeStore). n.ledger) c.self.view_is in
     executes c.args.self.now c.self.inside.ledger same c.len.ensures.valid (record { me = c.self.inside.me; key = c.self.inside.key; ledger = c.execute.new.self }) c.execute.new.self
     c.args.view c.args.request.now (Replied c.in_ok-reply.reply) (ap (λ (n : NodeStore). record n { ledger = c.execute.new.self }) c.self.view_is) c.in_ok-reply.ensures.made
+
+pub returns-clause-fits : goal.returns-clause-fits
+returns-clause-fits c =
+    executed_fits c.self.inside.ledger c.execute.new.self c.args.view c.args.request.now (Replied c.in_ok-reply.reply) c.in_ok-reply.ensures.made
+
+pub returns-clause-snapshot : goal.returns-clause-snapshot
+returns-clause-snapshot c = ap (λ (l : BasedLedger). l.snapshot) c.in_ok-reply.ensures.made.entered ∙ ap (λ (n : NodeStore). n.ledger.snapshot) c.self.view_is

@@ -1,8 +1,9 @@
-use Rattle.std.proofs.Common.{ap}
+use Rattle.std.proofs.Common.{ap, ◌∙◌}
 use Rattle.std.proofs.lemmas.Result.{err_from_is_err_and}
 use Rattle.gl_base.specs.Answers.{Fails}
 use Rattle.gl_ledger.specs.declared.response.Response.TheVariants.{Governed}
 use Rattle.gl_replication.specs.Standing.{At}
+use Rattle.gl_store_book.specs.BasedLedgers.{BasedLedger}
 use Rattle.gl_store_book.specs.Stands.{NodeStore, Stands}
 use Rattle.gl_store_book.proofs.BookTaken.{governs, refuses_govern}
 use Rattle.gl_store_book.proofs.book.StoreBookBook.govern.Goals as goal
@@ -20,3 +21,6 @@ returns-clause-made c =
     let same = ap (λ (n : NodeStore). n.ledger) c.self.view_is in
     governs c.args.self.now c.self.inside.ledger same c.len.ensures.valid (record { me = c.self.inside.me; key = c.self.inside.key; ledger = c.govern.new.self }) c.govern.new.self
     c.args.view c.args.request.now (Governed c.in_ok-status.status) (ap (λ (n : NodeStore). record n { ledger = c.govern.new.self }) c.self.view_is) c.in_ok-status.ensures.made
+
+pub returns-clause-snapshot : goal.returns-clause-snapshot
+returns-clause-snapshot c = ap (λ (l : BasedLedger). l.snapshot) c.in_ok-status.ensures.made.entered ∙ ap (λ (n : NodeStore). n.ledger.snapshot) c.self.view_is

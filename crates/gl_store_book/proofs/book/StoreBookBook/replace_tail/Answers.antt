@@ -2,7 +2,7 @@ use Rattle.std.proofs.Common.{max, ap, ◌∙◌}
 use Rattle.gl_replication.proofs.Rows.{if_err, if_ok}
 use Rattle.gl_store_book.specs.BasedLedgers.{body_of}
 use Rattle.gl_store_book.specs.Stands.{NodeStore}
-use Rattle.gl_store_book.proofs.BookTaken.{replaces, replaces_not}
+use Rattle.gl_store_book.proofs.BookTaken.{kept_snapshot, replaces, replaces_not}
 use Rattle.gl_store_book.proofs.book.StoreBookBook.replace_tail.Goals as goal
 
 pub returns-clause-replaced : goal.returns-clause-replaced
@@ -23,3 +23,8 @@ returns-clause-refused c =
     if_err c.replace_tail.result
     (λ e h. replaces_not c.args.self.now l same c.tail.ensures.valid c.args.seqno c.max-high.result high c.requires.base e c.args.entries.now h)
     c.replace_tail.ensures.refused
+
+pub returns-clause-snapshot : goal.returns-clause-snapshot
+returns-clause-snapshot c =
+    kept_snapshot c.replace_tail.result c.self.inside.ledger c.replace_tail.new.self c.max-high.result c.args.entries.now c.replace_tail.ensures.replaced c.replace_tail.ensures.err
+    ∙ ap (λ (n : NodeStore). n.ledger.snapshot) c.self.view_is

@@ -48,3 +48,6 @@ returns-clause-made c =
     (ap (λ (n : NodeStore). record n { ledger = c.apply.new.self }) c.self.view_is) c.requires.commit
     (λ keys has. ap (λ (x : BasedLedger). signed keys x node.me c.args.leaf c.args.view c.args.commit) same ∙ c.in_ok-entry.ensures.made keys has)
     c.in_ok-entry.ensures.view c.in_default-apply.ensures.unbroken c.in_default-apply.ensures.grown
+
+pub returns-clause-snapshot : goal.returns-clause-snapshot
+returns-clause-snapshot c = ap (λ (l : BasedLedger). l.snapshot) c.in_default-apply.ensures.grown ∙ ap (λ (n : NodeStore). n.ledger.snapshot) c.self.view_is

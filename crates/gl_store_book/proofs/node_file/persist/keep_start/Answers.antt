@@ -17,24 +17,24 @@ returns-in-Ok-keep_opening-clause-open g c s starts =
     record {
       kept = λ h. c.in-Ok-keep_opening.ensures.open h;
       opens = λ h.
-          let alone = without_snapshot (g.D.Disk.bytes c.args.journal.now.gated.disk) d (c.requires.file.opens h) in
+          let alone = without_snapshot (g.D.Disk.bytes c.args.journal.now.gated.disk) d c.requires.none (c.requires.file.opens h) in
           let folds = read_folds c.args.bytes.now c.in-Ok.opening.ledger c.in-Ok.opening.first d c.at_opening-turn.result c.entries.result.now s c.in-Ok.ensures.opened c.at_opening-turn.ensures
-          c.entries.ensures.entries alone c.requires.none starts in
+          c.entries.ensures.entries alone.0 alone.1 starts in
           c.in-Ok-keep_opening.ensures.kept h d (opened_state s d) (c.requires.file.opens h) folds;
     }
 
 pub returns-in-Ok-keep_opening-clause-any_moment : goal.returns-in-Ok-keep_opening-clause-any_moment
 returns-in-Ok-keep_opening-clause-any_moment g c h s starts =
     let d = seen_state c.args.state.now in
-    let alone = without_snapshot (g.D.Disk.bytes c.args.journal.now.gated.disk) d (c.requires.file.opens h) in
+    let alone = without_snapshot (g.D.Disk.bytes c.args.journal.now.gated.disk) d c.requires.none (c.requires.file.opens h) in
     let folds = read_folds c.args.bytes.now c.in-Ok.opening.ledger c.in-Ok.opening.first d c.at_opening-turn.result c.entries.result.now s c.in-Ok.ensures.opened c.at_opening-turn.ensures
-    c.entries.ensures.entries alone c.requires.none starts in
+    c.entries.ensures.entries alone.0 alone.1 starts in
     c.keep_opening.ensures.any_moment h d (opened_state s d) (c.requires.file.opens h) folds
 
 pub returns-in-Err-clause-any_moment : goal.returns-in-Err-clause-any_moment
 returns-in-Err-clause-any_moment g c h s starts =
     let d = seen_state c.args.state.now in
-    let alone = without_snapshot (g.D.Disk.bytes c.args.journal.now.gated.disk) d (c.requires.file.opens h) in
+    let alone = without_snapshot (g.D.Disk.bytes c.args.journal.now.gated.disk) d c.requires.none (c.requires.file.opens h) in
     let folds = read_folds c.args.bytes.now c.in-Ok.opening.ledger c.in-Ok.opening.first d c.at_opening-turn.result c.entries.result.now s c.in-Ok.ensures.opened c.at_opening-turn.ensures
-    c.entries.ensures.entries alone c.requires.none starts in
+    c.entries.ensures.entries alone.0 alone.1 starts in
     c.keep_opening.ensures.any_moment h d (opened_state s d) (c.requires.file.opens h) folds

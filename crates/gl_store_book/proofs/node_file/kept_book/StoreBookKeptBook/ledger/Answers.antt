@@ -5,7 +5,7 @@ use Rattle.gl_node.specs.Frames.{EachGoesOn}
 use Rattle.gl_store_book.specs.Frames.{goes_on_ledger}
 use Rattle.gl_store_book.specs.Stands.{NodeStore}
 use Rattle.gl_store_book.proofs.FrameLaws.{follow_each}
-use Rattle.gl_store_book.proofs.HeldLedgers.{holds_above}
+use Rattle.gl_store_book.proofs.HeldLedgers.{has_ledger, holds_above}
 use Rattle.gl_store_book.proofs.node_file.kept_book.StoreBookKeptBook.ledger.Goals as goal
 
 pub returns-clause-follow : goal.returns-clause-follow
@@ -16,3 +16,6 @@ returns-clause-follow c =
 
 pub returns-clause-above : goal.returns-clause-above
 returns-clause-above c = holds_above c.args.self.now
+
+pub returns-clause-some : goal.returns-clause-some
+returns-clause-some c = has_ledger c.args.self.now

@@ -1,6 +1,5 @@
 -- How a node begins, case by case.
-use Rattle.std.proofs.Common.{◌≡◌, ◌≢◌, ◌⊎◌, inl, inr, ℕ, ◌<◌, ◌≤◌, ◌^◌, Bool, true, false, nat_lt, ◌==◌, if◌then◌else◌, List, [], ◌∷◌, length, Option, None, Some, Result, Ok, Err, IfOk, IsOk, IsTrue, refl, sym, ap, subst, ◌∙◌, arith, ltb-false, ltb-true}
-use Rattle.std.proofs.lemmas.Bool.Decides.{nat_tests}
+use Rattle.std.proofs.Common.{◌≡◌, ◌≢◌, ◌⊎◌, inl, inr, ℕ, ◌<◌, ◌≤◌, ◌^◌, Bool, true, false, nat_lt, ◌==◌, if◌then◌else◌, List, [], Option, None, Some, Result, Ok, Err, IfOk, IsOk, IsTrue, refl, sym, ap, subst, ◌∙◌, arith, ltb-false, ltb-true}
 use Rattle.gl_entry.specs.declared.entry.Entry.{Entry}
 use Rattle.gl_rules.specs.World.{Start}
 use Rattle.gl_entry.specs.SourceBytes.{OfBytes}
@@ -11,18 +10,24 @@ use Rattle.gl_journal.specs.declared.fault.JournalFault.TheVariants.{DiskFault}
 use Rattle.gl_journal.specs.declared.key.KeyKind.{KeyKind}
 use Rattle.gl_journal.specs.declared.key.KeyKind.TheVariants as kinds
 use Rattle.gl_hss.specs.declared.types.Types.TheVariants as types
+use Rattle.gl_snapshot.specs.declared.fault.SnapshotFault.{SnapshotFault}
+use Rattle.gl_snapshot.specs.declared.snapshot.Snapshot.{Snapshot}
 use Rattle.gl_store_book.specs.AtOpening.{opening_size}
+use Rattle.gl_store_book.specs.FromSnapshot.{source_of, verified_snapshot}
 use Rattle.gl_store_book.specs.NodeFile.{has_ledger, opened}
 use Rattle.gl_store_book.specs.ServiceStart.{start_in}
 use Rattle.gl_store_book.specs.Stands.{HasLedger as IsOfLedger}
 use Rattle.gl_store_book.specs.ViewVotes.{IsOfOpening, IsTooLarge}
 use Rattle.gl_store_book.specs.declared.node_file.fault.OpeningFault.{OpeningFault}
-use Rattle.gl_store_book.specs.declared.node_file.fault.OpeningFault.TheVariants as faults
+use Rattle.gl_store_book.specs.declared.node_file.fault.OpeningFault.TheVariants as openings
+use Rattle.gl_store_book.specs.declared.node_file.from_snapshot.SourceKind.TheVariants as sources
 use Rattle.gl_store_book.proofs.WholeHeld.{none_base}
+use Rattle.ccfg.specs.declared.fault.BeginFault.{BeginFault}
+use Rattle.ccfg.specs.declared.fault.BeginFault.TheVariants as faults
 use Rattle.ccfg.specs.NodeCommand.{NeedsNoSource}
 use Rattle.ccfg.specs.Plans.{OpensAsBefore}
 use Rattle.ccfg.specs.SignCommand.{IsForeign}
-use Rattle.ccfg.specs.Nodes.{Beginning, OfOpened, begin_from, begin_with, beginning, beginning_of, opened_by, reopened}
+use Rattle.ccfg.specs.Nodes.{Beginning, OfOpened, begin_behind, begin_by, begin_from, begin_with, beginning, beginning_of, opened_by, reopened}
 
 -- ---- values
 
@@ -75,20 +80,20 @@ pub of_none : IsOfLedger None
 of_none = ([], none_base)
 
 -- what a node begins with, by whether its file has a ledger
-abbrev by_ledger : Durable → List ℕ → Bool → Result Beginning OpeningFault
+abbrev by_ledger : Durable → List ℕ → Bool → Result Beginning BeginFault
 by_ledger d given has = if has then Ok (reopened d) else begin_from d given
 
 -- with what the file keeps
 pub begins_again : (d : Durable) (given : List ℕ) → has_ledger d ≡ true → beginning d given ≡ Ok (reopened d)
 begins_again d given has = ap (by_ledger d given) has
 
-is_zero : (n : ℕ) → (n == 0) ≡ true → n ≡ 0
-is_zero n is = grind (arith, nat_tests, is)
-
 -- with nothing
-pub begins_empty : (d : Durable) (given : List ℕ) → has_ledger d ≡ false → (length given == 0) ≡ true → beginning d given ≡ Ok (reopened d)
-begins_empty d [] none empty = ap (by_ledger d []) none
-begins_empty d (byte ∷ given) none empty = absurd (omega (arith, is_zero (length (byte ∷ given)) empty))
+pub begins_empty : (d : Durable) (given : List ℕ) → has_ledger d ≡ false → source_of given ≡ sources.Nothing → beginning d given ≡ Ok (reopened d)
+begins_empty d given none is = ap (by_ledger d given) none ∙ ap (begin_by d given) is
+
+-- with a snapshot
+pub begins_behind : (d : Durable) (given : List ℕ) (r : Result Snapshot SnapshotFault) → has_ledger d ≡ false → source_of given ≡ sources.Snapshot → verified_snapshot given ≡ r → beginning d given ≡ begin_behind d r
+begins_behind d given r none is e = ap (by_ledger d given) none ∙ ap (begin_by d given) is ∙ ap (begin_behind d) e
 
 -- ---- an opening ledger
 
@@ -96,51 +101,51 @@ begins_empty d (byte ∷ given) none empty = absurd (omega (arith, is_zero (leng
 fits_one : (d : Durable) (s : Start Entry) → opening_size s d < 2 ^ 32 → begin_with d (Ok s) ≡ Ok (opened_by s d)
 fits_one d s low = go (nat_lt (opening_size s d) (2 ^ 32)) refl
   where
-    go : (t : Bool) → nat_lt (opening_size s d) (2 ^ 32) ≡ t → (if t then Ok (opened_by s d) else Err (faults.TooLarge (opening_size s d))) ≡ Ok (opened_by s d)
+    go : (t : Bool) → nat_lt (opening_size s d) (2 ^ 32) ≡ t → (if t then Ok (opened_by s d) else Err (faults.Opening (openings.TooLarge (opening_size s d)))) ≡ Ok (opened_by s d)
     go true e = refl
     go false e = absurd (omega (arith, low, ltb-false (opening_size s d) (2 ^ 32) e))
 
 -- it doesn't
-too_large : (d : Durable) (s : Start Entry) → 2 ^ 32 ≤ opening_size s d → begin_with d (Ok s) ≡ Err (faults.TooLarge (opening_size s d))
+too_large : (d : Durable) (s : Start Entry) → 2 ^ 32 ≤ opening_size s d → begin_with d (Ok s) ≡ Err (faults.Opening (openings.TooLarge (opening_size s d)))
 too_large d s high = go (nat_lt (opening_size s d) (2 ^ 32)) refl
   where
-    go : (t : Bool) → nat_lt (opening_size s d) (2 ^ 32) ≡ t → (if t then Ok (opened_by s d) else Err (faults.TooLarge (opening_size s d))) ≡ Err (faults.TooLarge (opening_size s d))
+    go : (t : Bool) → nat_lt (opening_size s d) (2 ^ 32) ≡ t → (if t then Ok (opened_by s d) else Err (faults.Opening (openings.TooLarge (opening_size s d)))) ≡ Err (faults.Opening (openings.TooLarge (opening_size s d)))
     go false e = refl
     go true e = absurd (omega (arith, high, ltb-true (opening_size s d) (2 ^ 32) e))
 
-by_start : (d : Durable) (given : List ℕ) (r : Result (Start Entry) ℕ) → given ≢ [] → start_in given ≡ r → begin_from d given ≡ begin_with d r
-by_start d [] r some e = absurd (some refl)
-by_start d (byte ∷ more) r some e = ap (begin_with d) e
+begins_from : (d : Durable) (given : List ℕ) (r : Result (Start Entry) ℕ) → has_ledger d ≡ false → source_of given ≡ sources.Ledger → start_in given ≡ r → beginning d given ≡ begin_with d r
+begins_from d given r none is e = ap (by_ledger d given) none ∙ ap (begin_by d given) is ∙ ap (begin_with d) e
 
-begins_from : (d : Durable) (given : List ℕ) (r : Result (Start Entry) ℕ) → has_ledger d ≡ false → given ≢ [] → start_in given ≡ r → beginning d given ≡ begin_with d r
-begins_from d given r none some e = ap (by_ledger d given) none ∙ by_start d given r some e
+pub begins_with : (d : Durable) (given : List ℕ) (s : Start Entry) → has_ledger d ≡ false → source_of given ≡ sources.Ledger → start_in given ≡ Ok s → opening_size s d < 2 ^ 32 → beginning d given ≡ Ok (opened_by s d)
+begins_with d given s none is e low = begins_from d given (Ok s) none is e ∙ fits_one d s low
 
-pub begins_with : (d : Durable) (given : List ℕ) (s : Start Entry) → has_ledger d ≡ false → given ≢ [] → start_in given ≡ Ok s → opening_size s d < 2 ^ 32 → beginning d given ≡ Ok (opened_by s d)
-begins_with d given s none some e low = begins_from d given (Ok s) none some e ∙ fits_one d s low
-
-pub refused_with : (d : Durable) (given : List ℕ) (fault : OpeningFault) → has_ledger d ≡ false → given ≢ [] → IsOfOpening fault → fault ≢ faults.Journal DiskFault →
-    ((seqno : ℕ) → fault ≡ faults.NotOpening seqno → start_in given ≡ Err seqno) → ((size : ℕ) → fault ≡ faults.TooLarge size → IsTooLarge (start_in given) d size) → beginning d given ≡ Err fault
-refused_with d given (faults.Journal fault) none some of other not_opening large = absurd (other (ap faults.Journal of))
-refused_with d given (faults.KeyKind want got) none some of other not_opening large = absurd of
-refused_with d given (faults.NotOpening seqno) none some of other not_opening large = begins_from d given (Err seqno) none some (not_opening seqno refl)
-refused_with d given (faults.TooLarge size) none some of other not_opening large =
+pub refused_with : (d : Durable) (given : List ℕ) (fault : OpeningFault) → has_ledger d ≡ false → source_of given ≡ sources.Ledger → IsOfOpening fault → fault ≢ openings.Journal DiskFault →
+    ((seqno : ℕ) → fault ≡ openings.NotOpening seqno → start_in given ≡ Err seqno) → ((size : ℕ) → fault ≡ openings.TooLarge size → IsTooLarge (start_in given) d size) → beginning d given ≡ Err (faults.Opening fault)
+refused_with d given (openings.Journal fault) none is of other not_opening large = absurd (other (ap openings.Journal of))
+refused_with d given (openings.KeyKind want got) none is of other not_opening large = absurd of
+refused_with d given (openings.NotOpening seqno) none is of other not_opening large = begins_from d given (Err seqno) none is (not_opening seqno refl)
+refused_with d given (openings.TooLarge size) none is of other not_opening large =
     let h = large size refl in
-    begins_from d given (Ok h.0) none some h.1 ∙ too_large d h.0 (subst (λ n. 2 ^ 32 ≤ n) h.2 h.3) ∙ ap (λ n. Err (faults.TooLarge n)) (sym h.2)
+    begins_from d given (Ok h.0) none is h.1 ∙ too_large d h.0 (subst (λ n. 2 ^ 32 ≤ n) h.2 h.3) ∙ ap (λ n. Err (faults.Opening (openings.TooLarge n))) (sym h.2)
 
 -- ---- the file
 
-pub begins_of : (d : Durable) (given : List ℕ) (r : Result Beginning OpeningFault) → d.key.kind ≡ kinds.Node → beginning d given ≡ r → beginning_of (Ok d) given ≡ r
+pub begins_of : (d : Durable) (given : List ℕ) (r : Result Beginning BeginFault) → d.key.kind ≡ kinds.Node → beginning d given ≡ r → beginning_of (Ok d) given ≡ r
 begins_of d given r kind e =
-    subst (λ (k : KeyKind). (if key_kind_tag kinds.Node == key_kind_tag k then beginning d given else Err (faults.KeyKind kinds.Node k)) ≡ r) (sym kind) e
+    subst (λ (k : KeyKind). (if key_kind_tag kinds.Node == key_kind_tag k then beginning d given else Err (faults.Opening (openings.KeyKind kinds.Node k))) ≡ r) (sym kind) e
 
-pub other_kind : (d : Durable) (given : List ℕ) (got : KeyKind) → d.key.kind ≡ got → got ≢ kinds.Node → beginning_of (Ok d) given ≡ Err (faults.KeyKind kinds.Node got)
+pub other_kind : (d : Durable) (given : List ℕ) (got : KeyKind) → d.key.kind ≡ got → got ≢ kinds.Node → beginning_of (Ok d) given ≡ Err (faults.Opening (openings.KeyKind kinds.Node got))
 other_kind d given got kind other =
-    subst (λ (k : KeyKind). (if key_kind_tag kinds.Node == key_kind_tag k then beginning d given else Err (faults.KeyKind kinds.Node k)) ≡ Err (faults.KeyKind kinds.Node got)) (sym kind) (go got other)
+    subst (λ (k : KeyKind). (if key_kind_tag kinds.Node == key_kind_tag k then beginning d given else Err (faults.Opening (openings.KeyKind kinds.Node k))) ≡ Err (faults.Opening (openings.KeyKind kinds.Node got))) (sym kind) (go got other)
   where
-    go : (k : KeyKind) → k ≢ kinds.Node → (if key_kind_tag kinds.Node == key_kind_tag k then beginning d given else Err (faults.KeyKind kinds.Node k)) ≡ Err (faults.KeyKind kinds.Node k)
+    go : (k : KeyKind) → k ≢ kinds.Node → (if key_kind_tag kinds.Node == key_kind_tag k then beginning d given else Err (faults.Opening (openings.KeyKind kinds.Node k))) ≡ Err (faults.Opening (openings.KeyKind kinds.Node k))
     go kinds.Service n = refl
     go kinds.Node n = absurd (n refl)
     go kinds.Member n = refl
+
+-- its fault is told as the node's
+pub told_as : (opens : Result Durable JournalFault) (given : List ℕ) (why other : OpeningFault) (fault : BeginFault) → beginning_of opens given ≡ Err (faults.Opening other) → why ≡ other → fault ≡ faults.Opening why → beginning_of opens given ≡ Err fault
+told_as opens given why other fault is same told = is ∙ ap (λ (o : OpeningFault). Err (faults.Opening o)) (sym same) ∙ ap Err (sym told)
 
 -- a file of a node that needs no source has a ledger
 pub has_one : (opens : Result Durable JournalFault) (d : Durable) → opens ≡ Ok d → d.key.kind ≡ kinds.Node → NeedsNoSource opens → has_ledger d ≡ true

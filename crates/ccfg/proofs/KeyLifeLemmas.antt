@@ -174,7 +174,7 @@ module _ {S D : Type 0} (key : Key) (spent : ℕ) (r : Run S D) (b : BeginsWithK
       let same = ap (λ (s : Durable). s.reserved) one in
       record { gate = gate; state = state; opens = is; same = kept ∙ ap (λ (s : Durable). s.key) one ∙ b.holds.same; least = omega (arith, least, same, more) }
 
-  module _ {L : Type 0} (node : NodeTask) (link : LinkRun L) (e : Ending) (does : NodeDoes node r link e) (of : OfLedger (opened (r.disk.bytes r.disk.before))) where
+  module _ {L : Type 0} (node : NodeTask) (link : LinkRun L) (e : Ending) (does : NodeDoes node r link e) (of : OfLedger (r.disk.bytes r.disk.before) r.source.given) where
     node_keeps : Keeps
     node_keeps = so_too (KeepsNode (r.disk.bytes r.disk.before) before) (HoldsKey key spent) before after node_left_so (does.any_moment b.honest b.holds.gate of)
 
@@ -182,15 +182,15 @@ module _ {S D : Type 0} (key : Key) (spent : ℕ) (r : Run S D) (b : BeginsWithK
       abbrev IsBegun : Result Durable JournalFault → List ℕ → Type 0
       IsBegun opens given =
           (by : BeginsBy r.disk.honest r.disk.bytes r.disk.past r.disk.faults opens given t.first)
-          × (keys : NodeKeys) × (keys.key_of (node_of by.state) ≡ key_of by.state)
-          × (below : List Entry) × IsBelow by.state below
-          × (told ≡ told_through (ledger_book service_layers keys) (node_of by.state) (by.start.node (ledger_book service_layers keys) below) t.life)
+          × (keys : NodeKeys) × (keys.key_of (node_of by.start.state) ≡ key_of by.start.state)
+          × (below : List Entry) × IsBelow by.start.state below
+          × (told ≡ told_through (ledger_book service_layers keys) (node_of by.start.state) (by.start.node (ledger_book service_layers keys) below) t.life)
 
       begun_tells : (given : List ℕ) → IsBegun (opened (r.disk.bytes r.disk.before)) given → Telling key spent after told
       begun_tells given (by, keys, keyed, below, stood, told_is) =
           let state = by.state in
           let book = ledger_book service_layers keys in
-          let me = node_of state in
+          let me = node_of by.start.state in
           let n = by.start.node book below in
           let has = start_leaves state given by.start (ap (λ (o : Result Durable JournalFault). beginning_of o given) (sym by.found) ∙ by.begins) in
           let tells = life_tells Stands goes_on_ledger r.disk.honest r.disk.bytes r.disk.past r.disk.faults b.honest book me t.first t.last t.life t.lives n (by.began.stands keys keyed below stood) by.start.state

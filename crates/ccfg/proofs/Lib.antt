@@ -12,6 +12,7 @@ pub mod NodeMoments
 pub mod Openings
 pub mod DiskLemmas
 pub mod FileNodes
+pub mod FileInstalls
 pub mod NodeEvents
 pub mod FileStarts
 pub mod NodeStarts

@@ -2,7 +2,7 @@
 use Rattle.std.proofs.Common.{◌≡◌, ◌≢◌, ◌⊎◌, inl, inr, ℕ, Bool, true, false, ◌||◌, List, Option, None, Some, Result, Ok, Err, IsTrue, is_ok, refl, sym, subst, ◌∙◌}
 use Rattle.std.specs.Io.KnownBytes.{Appends, Keeps}
 use Rattle.gl_outside.specs.Fault.{Rose}
-use Rattle.gl_store_book.specs.declared.node_file.fault.OpeningFault.{OpeningFault}
+use Rattle.ccfg.specs.declared.fault.BeginFault.{BeginFault}
 use Rattle.gl_commands.specs.declared.task.NodeTask.{NodeTask}
 use Rattle.gl_serve.specs.Serves.{calls_after}
 use Rattle.gl_serve.specs.declared.settings.ServeEnd.{ServeEnd}
@@ -41,7 +41,7 @@ module _ {S D L : Type 0} (task : NodeTask) (r : Run S D) (link : LinkRun L) whe
   Comes e = NodeRuns task r link e
 
   -- it is told why the node didn't begin
-  prints_refusal : (fault : OpeningFault) → NotBegun task r link fault → (e : Ending) → WritesOutput e r.sink (output_of_fault (printed.Opening fault)) → Comes e
+  prints_refusal : (fault : BeginFault) → NotBegun task r link fault → (e : Ending) → WritesOutput e r.sink (output_of_fault (printed.Opening fault)) → Comes e
   prints_refusal fault none endings.Done w = absurd (let q : endings.NotValid ≡ endings.Done = w.0 in cc)
   prints_refusal fault none endings.NotValid w = (fault, none, w.1)
   prints_refusal fault none endings.OtherWords w = absurd (let q : endings.NotValid ≡ endings.OtherWords = w.0 in cc)
@@ -87,10 +87,10 @@ module _ {S D L : Type 0} (task : NodeTask) (r : Run S D) (link : LinkRun L) whe
 
   -- it didn't begin
   pub stops_so : (stop : NodeError) (e : Ending) → NotServed task r link → ((stop ≢ stops.DiskFailed) → (stop ≢ stops.Memory) → IsTrue r.disk.honest → OpensAsBefore (r.disk.bytes r.disk.before) (r.disk.bytes r.disk.after)) →
-      ((fault : OpeningFault) → stop ≡ stops.Refused fault → OfBeginning task r link (λ opens given. beginning_of opens given ≡ Err fault)) →
+      ((fault : BeginFault) → stop ≡ stops.Refused fault → OfBeginning task r link (λ opens given. beginning_of opens given ≡ Err fault)) →
       (stop ≡ stops.SourceFailed → Rose r.source.faults r.source.faults_now) →
       (stop ≡ stops.DiskFailed → Rose (r.disk.faults r.disk.before) (r.disk.faults r.disk.after)) →
-      ((fault : OpeningFault) → stop ≡ stops.Refused fault → WritesOutput e r.sink (output_of_fault (printed.Opening fault))) →
+      ((fault : BeginFault) → stop ≡ stops.Refused fault → WritesOutput e r.sink (output_of_fault (printed.Opening fault))) →
       (stop ≡ stops.SourceFailed → Quiet e endings.SourceFailed) →
       (stop ≡ stops.DiskFailed → Quiet e endings.DiskFailed) →
       (stop ≡ stops.Memory → Quiet e endings.Memory) → Comes e

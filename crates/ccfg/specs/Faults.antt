@@ -3,6 +3,8 @@ use Rattle.std.specs.Prelude.{ℕ, List, ◌++◌, codes, decimal}
 use Rattle.hex.specs.Hex.{encode_lower}
 use Rattle.gl_store_book.specs.declared.node_file.fault.OpeningFault.{OpeningFault}
 use Rattle.gl_store_book.specs.declared.node_file.fault.OpeningFault.TheVariants as openings
+use Rattle.gl_snapshot.specs.declared.fault.SnapshotFault.{SnapshotFault}
+use Rattle.gl_snapshot.specs.declared.fault.SnapshotFault.TheVariants as snapshots
 use Rattle.gl_consortium.specs.declared.fault.SigningFault.{SigningFault}
 use Rattle.gl_consortium.specs.declared.fault.SigningFault.TheVariants as signing
 use Rattle.gl_commands.specs.Texts.{bad_action_text, form_text, journal_text, key_kinds_text, kind_name, nodes_text, receipt_text}
@@ -11,6 +13,8 @@ use Rattle.gl_recovery.specs.declared.fault.RecoveryFault.{RecoveryFault}
 use Rattle.gl_recovery.specs.declared.fault.RecoveryFault.TheVariants as recovery
 use Rattle.gl_recovery.specs.declared.recovering_fault.RecoveringFault.{RecoveringFault}
 use Rattle.gl_recovery.specs.declared.recovering_fault.RecoveringFault.TheVariants as recovering
+use Rattle.ccfg.specs.declared.fault.BeginFault.{BeginFault}
+use Rattle.ccfg.specs.declared.fault.BeginFault.TheVariants as beginnings
 use Rattle.ccfg.specs.declared.fault.Fault.{Fault}
 use Rattle.ccfg.specs.declared.fault.Fault.TheVariants as faults
 
@@ -46,12 +50,25 @@ recovering_text (recovering.KeyExhausted reserved) = codes "KeyExhausted " ++ de
 recovering_text (recovering.Recovery fault) = recovery_text fault
 recovering_text recovering.DiskFailed = codes "DiskFailed"
 
--- Why a node doesn't begin.
+-- Why a node's file can't be opened, or can't begin with an opening ledger.
 abbrev pub opening_text : OpeningFault → List ℕ
 opening_text (openings.Journal fault) = journal_text fault
 opening_text (openings.KeyKind want got) = key_kinds_text want got
 opening_text (openings.NotOpening seqno) = codes "NotOpening " ++ decimal seqno
 opening_text (openings.TooLarge size) = codes "TooLarge " ++ decimal size
+
+-- Why bytes are no snapshot that a node can begin behind. Of two digests the one that is wanted is
+-- told first.
+abbrev pub snapshot_text : SnapshotFault → List ℕ
+snapshot_text (snapshots.Shape at) = codes "Shape " ++ decimal at
+snapshot_text (snapshots.Receipt fault) = codes "Receipt " ++ receipt_text fault
+snapshot_text (snapshots.Digest want got) =
+    codes "Digest " ++ encode_lower want ++ codes " " ++ encode_lower got
+
+-- Why a node doesn't begin.
+abbrev pub beginning_text : BeginFault → List ℕ
+beginning_text (beginnings.Opening fault) = opening_text fault
+beginning_text (beginnings.Snapshot fault) = snapshot_text fault
 
 abbrev pub fault_text : Fault → List ℕ
 fault_text (faults.Words kind) = kind_name kind
@@ -73,7 +90,7 @@ fault_text (faults.KeyKind want got) = key_kinds_text want got
 fault_text faults.BadDealing = codes "BadAction 0 10"
 fault_text (faults.Signing fault) = signing_text fault
 fault_text (faults.Recovering fault) = recovering_text fault
-fault_text (faults.Opening fault) = opening_text fault
+fault_text (faults.Opening fault) = beginning_text fault
 fault_text (faults.Turns turns) = codes "turns " ++ decimal turns
 
 -- The line.

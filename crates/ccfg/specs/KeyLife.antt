@@ -82,7 +82,8 @@ module _ {S D : Type 0} (r : Run S D) (told : List ℕ) where
   TellsByUse (Some leaf) e = TellsBySigning e
 
 -- A node that began: the leaves of the signatures that its events made, under the book of a service
--- in which it has the key of its file, and with entries for which its file's snapshot stands.
+-- in which it has the key of its file, and with entries for which the snapshot stands behind which
+-- it began.
 pub record TellsByServing {S D L : Type 0} (node : NodeTask) (r : Run S D) (link : LinkRun L)
     (told : List ℕ) : Type 0 where
   pub first : NodeSeen D NodeStore
@@ -93,9 +94,9 @@ pub record TellsByServing {S D L : Type 0} (node : NodeTask) (r : Run S D) (link
   pub disk : last.disk ≡ r.disk.after
   pub leaves : OfBeginning node r link (λ opens given.
       (by : BeginsBy r.disk.honest r.disk.bytes r.disk.past r.disk.faults opens given first)
-      × (keys : NodeKeys) × (keys.key_of (node_of by.state) ≡ key_of by.state)
-      × (below : List Entry) × IsBelow by.state below
-      × (told ≡ told_through (ledger_book service_layers keys) (node_of by.state)
+      × (keys : NodeKeys) × (keys.key_of (node_of by.start.state) ≡ key_of by.start.state)
+      × (below : List Entry) × IsBelow by.start.state below
+      × (told ≡ told_through (ledger_book service_layers keys) (node_of by.start.state)
       (by.start.node (ledger_book service_layers keys) below) life))
 
 -- The leaves by which a run may have told signatures, by what it was asked and how it ended.
@@ -114,12 +115,12 @@ pub record KeyRun (S D L : Type 0) : Type 0 where
   pub ending : Ending
   pub told : List ℕ
 
--- A run that serves as a node begins with a file whose snapshot, if it has one, stands for a
--- ledger. Nothing is asked of any other.
+-- A run that serves as a node begins behind a snapshot, its file's or its source's, that stands for
+-- a ledger, or behind none. Nothing is asked of any other.
 abbrev pub MayServe : {S D : Type 0} → Asked → Run S D → Type 0
 MayServe (asks.Task task) r = Unit {0}
 MayServe (asks.Load load) r = Unit {0}
-MayServe (asks.Node node) r = OfLedger (opened (r.disk.bytes r.disk.before))
+MayServe (asks.Node node) r = OfLedger (r.disk.bytes r.disk.before) r.source.given
 
 -- The first begins with what a stop may have left once these steps were done, and each next one
 -- with what it may have left of the one before. Each one that is a node's may serve.

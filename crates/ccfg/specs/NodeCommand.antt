@@ -23,12 +23,13 @@ pub record NodeDoes {S D L : Type 0} (node : NodeTask) (r : Run S D) (link : Lin
   -- It began by its file and the source, what it did over the link came to this end, and so the run
   -- ends and writes.
   pub exact : NodeRuns node r link e
-  -- Whatever the ending: where the file of an honest disk has its closed gate, and its snapshot, if
-  -- it has one, stands for a ledger, then at every moment each image that a stop may leave is one
-  -- that it might have left before, or opens as the disk's bytes do, or to their key with no fewer
-  -- spent leaves.
+  -- Whatever the ending: where the file of an honest disk has its closed gate, and the snapshot
+  -- behind which the node begins, if there is one, stands for a ledger, then at every moment each
+  -- image that a stop may leave is one that it might have left before, or opens as the disk's bytes
+  -- do, or to their key with no fewer spent leaves. Where the file has no ledger, that snapshot is
+  -- the source's.
   pub any_moment : IsTrue r.disk.honest → HasGate journal_header (r.disk.bytes r.disk.before) →
-      OfLedger (opened (r.disk.bytes r.disk.before)) →
+      OfLedger (r.disk.bytes r.disk.before) r.source.given →
       MovesNode (r.disk.bytes r.disk.before) (r.disk.past r.disk.before)
       (r.disk.past r.disk.after)
   -- A file that opens to nothing is left alone: at every moment a stop leaves what it might have

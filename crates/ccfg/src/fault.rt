@@ -1,7 +1,7 @@
 //! Why words or bytes are refused, and the one line that tells it.
 
 ghost use Rattle.std.specs.Prelude.{◌≡◌, ◌++◌, IfOk, OnOk, codes, decimal};
-ghost use Rattle.ccfg.specs.Faults.{fault_line, fault_text, opening_text, recovering_text, recovery_text, signing_text};
+ghost use Rattle.ccfg.specs.Faults.{beginning_text, fault_line, fault_text, opening_text, recovering_text, recovery_text, signing_text, snapshot_text};
 ghost use Rattle.ccfg.specs.ExpectedOutput.{ending_of_fault, ending_of_recovering};
 
 use crate::ending::Ending;
@@ -16,8 +16,19 @@ use gl_journal::{JournalFault, KeyKind};
 use gl_receipt::ReceiptFault;
 use gl_recovery::{RecoveringFault, RecoveryFault};
 use gl_requests::HssPublicKey;
+use gl_snapshot::SnapshotFault;
 use gl_store_book::OpeningFault;
 use std::alloc::{AllocError, Global};
+
+/// Why a node doesn't begin.
+#[derive(Clone, Copy, Debug, PartialEq, Eq)]
+pub enum BeginFault {
+    /// The file has no node, or the node can't begin with the opening ledger.
+    Opening(OpeningFault),
+    /// The source gives no snapshot that is one of the service that its own rows of governance
+    /// name.
+    Snapshot(SnapshotFault),
+}
 
 /// Why nothing happens, or that a verdict is no.
 #[derive(Debug, Drop)]
@@ -58,8 +69,8 @@ pub enum Fault {
     Signing(SigningFault),
     /// No service is recovered.
     Recovering(RecoveringFault),
-    /// The file has no node, or the node can't begin with the opening ledger.
-    Opening(OpeningFault),
+    /// The file has no node, or the node can't begin with what the source gives.
+    Opening(BeginFault),
     /// The link was asked so often as it may be, and gave no end.
     Turns { turns: u64 },
 }
@@ -120,7 +131,7 @@ fn put_recovering(
     }
 }
 
-/// Why a node doesn't begin.
+/// Why a node's file can't be opened, or can't begin with an opening ledger.
 fn put_opening(out: &mut Vec<u8>, fault: OpeningFault) -> Result<(), AllocError>
     ensures { OnOk result (out.new.items ≡ out.old.items ++ opening_text fault) }
 {
@@ -129,6 +140,35 @@ fn put_opening(out: &mut Vec<u8>, fault: OpeningFault) -> Result<(), AllocError>
         OpeningFault::KeyKind { want, got } => put_key_kinds(out, want, got),
         OpeningFault::NotOpening { seqno } => put_named(out, "NotOpening ", seqno),
         OpeningFault::TooLarge { size } => put_named(out, "TooLarge ", size),
+    }
+}
+
+/// Why bytes are no snapshot that a node can begin behind.
+fn put_snapshot(alloc: Global, out: &mut Vec<u8>, fault: SnapshotFault) -> Result<(), AllocError>
+    ensures { OnOk result (out.new.items ≡ out.old.items ++ snapshot_text fault) }
+{
+    match fault {
+        SnapshotFault::Shape { at } => put_named(out, "Shape ", at as u64),
+        SnapshotFault::Receipt(fault) => {
+            out.extend_from_slice(b"Receipt ")?;
+            put_receipt(alloc, out, fault)
+        }
+        SnapshotFault::Digest { want, got } => {
+            out.extend_from_slice(b"Digest ")?;
+            put_hex(alloc, out, &want)?;
+            out.extend_from_slice(b" ")?;
+            put_hex(alloc, out, &got)
+        }
+    }
+}
+
+/// Why a node doesn't begin.
+fn put_beginning(alloc: Global, out: &mut Vec<u8>, fault: BeginFault) -> Result<(), AllocError>
+    ensures { OnOk result (out.new.items ≡ out.old.items ++ beginning_text fault) }
+{
+    match fault {
+        BeginFault::Opening(fault) => put_opening(out, fault),
+        BeginFault::Snapshot(fault) => put_snapshot(alloc, out, fault),
     }
 }
 
@@ -188,7 +228,7 @@ impl Fault {
             Fault::BadDealing => out.extend_from_slice(b"BadAction 0 10"),
             Fault::Signing(fault) => put_signing(alloc, out, fault),
             Fault::Recovering(fault) => put_recovering(alloc, out, fault),
-            Fault::Opening(fault) => put_opening(out, *fault),
+            Fault::Opening(fault) => put_beginning(alloc, out, *fault),
             Fault::Turns { turns } => put_named(out, "turns ", *turns),
         }
     }

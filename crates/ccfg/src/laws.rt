@@ -26,9 +26,9 @@ pub fn law_of_endings<S, D>()
 /// No leaf of a key file signs twice. `keygen` leaves a file of its key. From then on, through any
 /// runs of the program that follow one another, each on what a stop may have left of the one
 /// before, whatever they were asked, what failed and where they stopped: a stop leaves a file of
-/// the key at every moment, each leaf by which a signature may have been told is above those
-/// before it, and it is spent in whatever a stop leaves then. A node is to serve from a file whose
-/// snapshot, if it has one, stands for a ledger.
+/// the key at every moment, each leaf by which a signature may have been told is above those before
+/// it, and it is spent in whatever a stop leaves then. The snapshot behind which a node begins, its
+/// file's or its source's, if there is one, is to stand for a ledger.
 pub fn law_of_leaves<S, D, L>()
     ensures begins { (kind : KeyKind) (types : Types) (r : Run S D) → KeygenDoes kind types r Done
         → IsTrue r.disk.honest → OfBytes r.source.given (λ seed.

@@ -1,5 +1,6 @@
 //! A node that serves from the disk's file over a link: its file is opened, it begins by what the
-//! file keeps or by the opening ledger that its source gives, and it serves until the link ends.
+//! file keeps or by the opening ledger or the snapshot that its source gives, and it serves until
+//! the link ends.
 
 ghost use Rattle.std.specs.Prelude.{◌≡◌, ◌≢◌, ◌⊎◌, ◌++◌, ◌≤◌, ℕ, false, true, Err, IfOk, IsTrue, None, Ok, codes, decimal};
 ghost use Rattle.gl_base.specs.declared.or_no_memory.OrNoMemory.{OrNoMemory};
@@ -10,10 +11,15 @@ ghost use Rattle.gl_journal.specs.Durable.{Durable, journal_header};
 ghost use Rattle.gl_journal.specs.Kept.{IsAtRest};
 ghost use Rattle.gl_journal.specs.Parts.{HasGate};
 ghost use Rattle.gl_journal.specs.declared.fault.JournalFault.{JournalFault};
+ghost use Rattle.gl_snapshot.specs.declared.fault.SnapshotFault.{SnapshotFault};
 ghost use Rattle.gl_store_book.specs.Frames.{goes_on_ledger};
+ghost use Rattle.gl_store_book.specs.FromSnapshot.{source_of};
 ghost use Rattle.gl_store_book.specs.NodeFile.{has_ledger, opened};
 ghost use Rattle.gl_store_book.specs.declared.node_file.fault.OpeningFault.{OpeningFault};
+ghost use Rattle.gl_store_book.specs.declared.node_file.fault.SnapshotOpening.{SnapshotOpening};
+ghost use Rattle.gl_store_book.specs.declared.node_file.from_snapshot.SourceKind.{SourceKind};
 ghost use Rattle.ccfg.specs.ExpectedOutput.{WritesOutput, output_of_answer, output_of_fault};
+ghost use Rattle.ccfg.specs.declared.fault.BeginFault.{BeginFault};
 ghost use Rattle.ccfg.specs.declared.fault.Fault.TheVariants as reported;
 ghost use Rattle.gl_serve.specs.OverLink.{KeepsLeaves};
 ghost use Rattle.ccfg.specs.NodeCommand.{NeedsNoSource};
@@ -23,7 +29,7 @@ ghost use Rattle.ccfg.specs.Run.{disk_run, link_run, sink_run, source_run};
 ghost use Rattle.ccfg.specs.Nodes.{BeginsAs, BeginsBy, Beginning, HasLedger, IsUnserved, KeepsOpening, MovesNode, NodeRuns, OfLedger, OfOpened, beginning, beginning_of, disk_after, reopened, served_line};
 
 use crate::ending::Ending;
-use crate::fault::Fault;
+use crate::fault::{BeginFault, Fault};
 use crate::output::{refuse, write_out};
 use crate::source_bytes::{ReadError, read_to_end};
 use gl_base::OrNoMemory;
@@ -32,24 +38,24 @@ use gl_journal::JournalFault;
 use gl_node::Replica;
 use gl_outside::{Disk, Link, Sink, Source};
 use gl_serve::{Observer, ServeEnd, Serving, serve_replica};
-use gl_store_book::{NodeFile, OpeningFault, StoreBook};
+use gl_store_book::{NodeFile, OpeningFault, SnapshotOpening, SourceKind, StoreBook, source_of};
 use std::alloc::{AllocError, Global};
 
 /// Why no node begins.
 #[derive(Clone, Copy, Debug, PartialEq, Eq)]
 pub enum NodeError {
-    /// The file is no node's, or the source gives no opening ledger.
-    Refused(OpeningFault),
+    /// The file is no node's, or the source gives nothing with which one begins.
+    Refused(BeginFault),
     SourceFailed,
     DiskFailed,
     Memory,
 }
 
-/// Why no node begins whose file can't be opened, or can't begin.
+/// Why no node begins whose file can't be opened, or can't begin with an opening ledger.
 fn stop_of(error: OrNoMemory<OpeningFault>) -> NodeError
-    ensures refused { (fault : OpeningFault) → result ≡ NodeError.Refused fault →
-        (error ≡ OrNoMemory.Fault fault)
-        × (fault ≢ OpeningFault.Journal JournalFault.DiskFault) }
+    ensures refused { (fault : BeginFault) → result ≡ NodeError.Refused fault →
+        (why : OpeningFault) × (fault ≡ BeginFault.Opening why) × (error ≡ OrNoMemory.Fault why)
+        × (why ≢ OpeningFault.Journal JournalFault.DiskFault) }
     ensures disk_failed { result ≡ NodeError.DiskFailed →
         error ≡ OrNoMemory.Fault (OpeningFault.Journal JournalFault.DiskFault) }
     ensures disk { error ≡ OrNoMemory.Fault (OpeningFault.Journal JournalFault.DiskFault) →
@@ -59,7 +65,27 @@ fn stop_of(error: OrNoMemory<OpeningFault>) -> NodeError
     match error {
         OrNoMemory::NoMemory => NodeError::Memory,
         OrNoMemory::Fault(OpeningFault::Journal(JournalFault::DiskFault)) => NodeError::DiskFailed,
-        OrNoMemory::Fault(fault) => NodeError::Refused(fault),
+        OrNoMemory::Fault(fault) => NodeError::Refused(BeginFault::Opening(fault)),
+    }
+}
+
+/// Why no node begins that can't begin from a snapshot.
+fn snapshot_stop_of(error: OrNoMemory<SnapshotOpening>) -> NodeError
+    ensures refused { (fault : BeginFault) → result ≡ NodeError.Refused fault →
+        (why : SnapshotFault) × (fault ≡ BeginFault.Snapshot why)
+        × (error ≡ OrNoMemory.Fault (SnapshotOpening.Snapshot why)) }
+    ensures disk_failed { result ≡ NodeError.DiskFailed →
+        error ≡ OrNoMemory.Fault SnapshotOpening.DiskFault }
+    ensures disk { error ≡ OrNoMemory.Fault SnapshotOpening.DiskFault →
+        result ≡ NodeError.DiskFailed }
+    ensures no_source { result ≢ NodeError.SourceFailed }
+{
+    match error {
+        OrNoMemory::NoMemory => NodeError::Memory,
+        OrNoMemory::Fault(SnapshotOpening::DiskFault) => NodeError::DiskFailed,
+        OrNoMemory::Fault(SnapshotOpening::Snapshot(fault)) => {
+            NodeError::Refused(BeginFault::Snapshot(fault))
+        }
     }
 }
 
@@ -68,7 +94,7 @@ fn reopen<D: Disk + Drop>(file: NodeFile<D>) -> Result<Replica<D, StoreBook>, (N
     requires kept { IsTrue D.honest → opened (D.bytes file.disk) ≡ Ok file.state }
     requires at_rest { IsTrue D.honest → IsAtRest (D.bytes file.disk) (D.past file.disk) }
     ensures begins { IfOk result (λ replica. BeginsAs D.honest D.bytes D.past D.faults
-        (reopened file.state) file.state replica) }
+        (reopened file.state) replica) }
     ensures same { IfOk result (λ replica. replica.disk ≡ file.disk) }
     ensures going { IfOk result (λ replica. replica.stopped ≡ None) }
     ensures err { (why : NodeError) (back : D) → result ≡ Err (why, back) →
@@ -80,19 +106,19 @@ fn reopen<D: Disk + Drop>(file: NodeFile<D>) -> Result<Replica<D, StoreBook>, (N
     }
 }
 
-/// The node of a file that has no ledger begins with what a source gave, or joins where that was
-/// nothing.
-fn begin_with<D: Disk + Drop>(
+/// The node of a file that has no ledger begins with the frames of a ledger that a source gave.
+fn begin_opening<D: Disk + Drop>(
     file: NodeFile<D>,
     given: &[u8],
 ) -> Result<Replica<D, StoreBook>, (NodeError, D)>
     requires kept { IsTrue D.honest → opened (D.bytes file.disk) ≡ Ok file.state }
     requires at_rest { IsTrue D.honest → IsAtRest (D.bytes file.disk) (D.past file.disk) }
     requires none { has_ledger file.state ≡ false }
+    requires ledger { source_of given.now ≡ SourceKind.Ledger }
     ensures begins { IfOk result (λ replica. (b : Beginning)
         × (beginning file.state given.now ≡ Ok b)
-        × BeginsAs D.honest D.bytes D.past D.faults b file.state replica) }
-    ensures refused { (fault : OpeningFault) (back : D) →
+        × BeginsAs D.honest D.bytes D.past D.faults b replica) }
+    ensures refused { (fault : BeginFault) (back : D) →
         result ≡ Err (NodeError.Refused fault, back) → beginning file.state given.now ≡ Err fault }
     ensures no_source { (back : D) → result ≢ Err (NodeError.SourceFailed, back) }
     ensures going { IfOk result (λ replica. replica.stopped ≡ None) }
@@ -107,12 +133,78 @@ fn begin_with<D: Disk + Drop>(
     ensures any_moment { IsTrue D.honest → Leaves (KeepsOpening file.state)
         (D.past file.disk) (D.past (disk_after result)) }
 {
-    if given.is_empty() {
-        return reopen(file);
-    }
     match file.begin(given) {
         Ok(replica) => Ok(replica),
         Err((error, disk)) => Err((stop_of(error), disk)),
+    }
+}
+
+/// The node of a file that has no ledger begins behind the snapshot that a source gave.
+fn begin_behind<D: Disk + Drop>(
+    file: NodeFile<D>,
+    given: &[u8],
+) -> Result<Replica<D, StoreBook>, (NodeError, D)>
+    requires kept { IsTrue D.honest → opened (D.bytes file.disk) ≡ Ok file.state }
+    requires at_rest { IsTrue D.honest → IsAtRest (D.bytes file.disk) (D.past file.disk) }
+    requires none { has_ledger file.state ≡ false }
+    requires snapshot { source_of given.now ≡ SourceKind.Snapshot }
+    ensures begins { IfOk result (λ replica. (b : Beginning)
+        × (beginning file.state given.now ≡ Ok b)
+        × BeginsAs D.honest D.bytes D.past D.faults b replica) }
+    ensures refused { (fault : BeginFault) (back : D) →
+        result ≡ Err (NodeError.Refused fault, back) → beginning file.state given.now ≡ Err fault }
+    ensures no_source { (back : D) → result ≢ Err (NodeError.SourceFailed, back) }
+    ensures going { IfOk result (λ replica. replica.stopped ≡ None) }
+    ensures quiet { IfOk result (λ replica. D.faults replica.disk ≡ D.faults file.disk) }
+    ensures untouched { IsTrue D.honest → (why : NodeError) (back : D) → result ≡ Err (why, back) →
+        why ≢ NodeError.DiskFailed → (D.bytes back ≡ D.bytes file.disk)
+        × (D.past back ≡ D.past file.disk) }
+    ensures disk_failed { (back : D) → result ≡ Err (NodeError.DiskFailed, back) →
+        Rose (D.faults file.disk) (D.faults back) }
+    ensures spent { IsTrue D.honest → IfOk result (λ replica.
+        KeepsLeaves goes_on_ledger file.state (D.bytes replica.disk)) }
+    ensures any_moment { IsTrue D.honest → Leaves (KeepsOpening file.state)
+        (D.past file.disk) (D.past (disk_after result)) }
+{
+    match file.begin_from_snapshot(given) {
+        Ok(replica) => Ok(replica),
+        Err((error, disk)) => Err((snapshot_stop_of(error), disk)),
+    }
+}
+
+/// The node of a file that has no ledger begins with what a source gave, an opening ledger or a
+/// snapshot, or joins where that was nothing.
+fn begin_with<D: Disk + Drop>(
+    alloc: Global,
+    file: NodeFile<D>,
+    given: &[u8],
+) -> Result<Replica<D, StoreBook>, (NodeError, D)>
+    requires kept { IsTrue D.honest → opened (D.bytes file.disk) ≡ Ok file.state }
+    requires at_rest { IsTrue D.honest → IsAtRest (D.bytes file.disk) (D.past file.disk) }
+    requires none { has_ledger file.state ≡ false }
+    ensures begins { IfOk result (λ replica. (b : Beginning)
+        × (beginning file.state given.now ≡ Ok b)
+        × BeginsAs D.honest D.bytes D.past D.faults b replica) }
+    ensures refused { (fault : BeginFault) (back : D) →
+        result ≡ Err (NodeError.Refused fault, back) → beginning file.state given.now ≡ Err fault }
+    ensures no_source { (back : D) → result ≢ Err (NodeError.SourceFailed, back) }
+    ensures going { IfOk result (λ replica. replica.stopped ≡ None) }
+    ensures quiet { IfOk result (λ replica. D.faults replica.disk ≡ D.faults file.disk) }
+    ensures untouched { IsTrue D.honest → (why : NodeError) (back : D) → result ≡ Err (why, back) →
+        why ≢ NodeError.DiskFailed → (D.bytes back ≡ D.bytes file.disk)
+        × (D.past back ≡ D.past file.disk) }
+    ensures disk_failed { (back : D) → result ≡ Err (NodeError.DiskFailed, back) →
+        Rose (D.faults file.disk) (D.faults back) }
+    ensures spent { IsTrue D.honest → IfOk result (λ replica.
+        KeepsLeaves goes_on_ledger file.state (D.bytes replica.disk)) }
+    ensures any_moment { IsTrue D.honest → Leaves (KeepsOpening file.state)
+        (D.past file.disk) (D.past (disk_after result)) }
+{
+    match source_of(alloc, given) {
+        Ok(SourceKind::Nothing) => reopen(file),
+        Ok(SourceKind::Ledger) => begin_opening(file, given),
+        Ok(SourceKind::Snapshot) => begin_behind(file, given),
+        Err(_) => Err((NodeError::Memory, file.into_disk())),
     }
 }
 
@@ -127,8 +219,8 @@ fn begin<S: Source, D: Disk + Drop>(
     requires at_rest { IsTrue D.honest → IsAtRest (D.bytes file.disk) (D.past file.disk) }
     ensures begins { IfOk result (λ replica. OfBytes (S.left source.old) (λ given. (b : Beginning)
         × (beginning file.state given ≡ Ok b)
-        × BeginsAs D.honest D.bytes D.past D.faults b file.state replica)) }
-    ensures refused { (fault : OpeningFault) (back : D) →
+        × BeginsAs D.honest D.bytes D.past D.faults b replica)) }
+    ensures refused { (fault : BeginFault) (back : D) →
         result ≡ Err (NodeError.Refused fault, back) → OfBytes (S.left source.old) (λ given.
         beginning file.state given ≡ Err fault) }
     ensures untouched { IsTrue D.honest → (why : NodeError) (back : D) → result ≡ Err (why, back) →
@@ -141,7 +233,7 @@ fn begin<S: Source, D: Disk + Drop>(
         S.faults source.new ≡ S.faults source.old }
     ensures ended { has_ledger file.state ≡ false →
         IfOk result (λ replica. S.ended source.new ≡ true) }
-    ensures ended_refused { (fault : OpeningFault) (back : D) →
+    ensures ended_refused { (fault : BeginFault) (back : D) →
         result ≡ Err (NodeError.Refused fault, back) → S.ended source.new ≡ true }
     ensures source_failed { (back : D) → result ≡ Err (NodeError.SourceFailed, back) →
         Rose (S.faults source.old) (S.faults source.new) }
@@ -156,7 +248,7 @@ fn begin<S: Source, D: Disk + Drop>(
         return reopen(file);
     }
     match read_to_end(alloc, source) {
-        Ok(given) => begin_with(file, &given),
+        Ok(given) => begin_with(alloc, file, &given),
         Err(ReadError::Failed) => Err((NodeError::SourceFailed, file.into_disk())),
         Err(ReadError::Memory) => Err((NodeError::Memory, file.into_disk())),
         Err(ReadError::TooLong) => unreachable!(),
@@ -173,7 +265,7 @@ fn open<S: Source, D: Disk + Drop>(
         OfBytes (S.left source.old) (λ given.
         BeginsBy D.honest D.bytes D.past D.faults opens given replica
         × (HasLedger opens ⊎ (S.ended source.new ≡ true))))) }
-    ensures refused { (fault : OpeningFault) (back : D) →
+    ensures refused { (fault : BeginFault) (back : D) →
         result ≡ Err (NodeError.Refused fault, back) →
         OfOpened D.honest (D.bytes disk) (λ opens. OfBytes (S.left source.old) (λ given.
         beginning_of opens given ≡ Err fault)) }
@@ -210,7 +302,7 @@ fn open<S: Source, D: Disk + Drop>(
 
 /// Tells why no node begins, where that is reported.
 fn print_stop<K: Sink>(alloc: Global, stop: NodeError, sink: &mut K) -> Ending
-    ensures refused { (fault : OpeningFault) → stop ≡ NodeError.Refused fault →
+    ensures refused { (fault : BeginFault) → stop ≡ NodeError.Refused fault →
         WritesOutput result (record {
           held = K.holds sink.old;
           holds = K.holds sink.new;
@@ -323,7 +415,7 @@ pub fn run_node<S: Source, K: Sink, D: Disk + Drop, L: Link, O: Observer>(
     ensures unread { IsTrue D.honest → NeedsNoSource (opened (D.bytes disk)) →
         source.new ≡ source.old }
     ensures any_moment { IsTrue D.honest → HasGate journal_header (D.bytes disk) →
-        OfLedger (opened (D.bytes disk)) →
+        OfLedger (D.bytes disk) (S.left source.old) →
         MovesNode (D.bytes disk) (D.past disk) (D.past result.1) }
 {
     match open(alloc, source, disk) {

@@ -17,7 +17,7 @@ use gl_base::{OrNoMemory, Sequence};
 use gl_config::NodeId;
 use gl_messages::Message;
 use gl_node::{NodeFault, Replica};
-use gl_replication::{Core, Done, Event as NodeEvent, Outcome, Refusal};
+use gl_replication::{Core, Done, Event as NodeEvent, Offer, Outcome, Refusal};
 use gl_store_book::{NodeFile, StoreBook, a_stop_forgets_nothing};
 use gl_world::{Event, WorldNode};
 use std::alloc::{AllocError, Global};
@@ -154,6 +154,16 @@ impl WorldNode for FileNode {
             Err(_) => Err(Refusal::NoMemory),
             Ok(None) => self.restart(),
             Ok(Some(event)) => self.dispatch(event),
+        }
+    }
+
+    /// The disk never fails, so the node never stops.
+    fn install(&mut self, offer: Offer) -> Result<Done<StoreBook>, Refusal<StoreBook>> {
+        match self.replica.install(offer) {
+            Ok(done) => Ok(done),
+            Err(NodeFault::Refused(why)) => Err(why),
+            Err(NodeFault::DiskFault) => unreachable!(),
+            Err(NodeFault::Stopped { .. }) => unreachable!(),
         }
     }
 }

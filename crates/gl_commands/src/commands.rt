@@ -57,11 +57,12 @@ Commands:
       ADDR, an address and a port, answers clients and goes on with its peers,
       whose identifiers are ID.., 64 digits of lower-case hexadecimal each, and
       which listen at the ADDR of @peer, in the same order. A file without a ledger
-      takes the one that opens the service from standard input, or none, and the
-      node joins. So many ticks without word of a leader, 10 if no word says it,
-      make the node stand for election. It serves until it is stopped; with --turns
-      it ends once it asked so often for what comes next. --workers 0 may be said
-      too. It writes how many payloads it served and how many frames it lost
+      takes the one that opens the service from standard input, or a snapshot of
+      its ledger, or none, and the node joins. So many ticks without word of a
+      leader, 10 if no word says it, make the node stand for election. It serves
+      until it is stopped; with --turns it ends once it asked so often for what
+      comes next. --workers 0 may be said too. It writes how many payloads it served
+      and how many frames it lost
   ccfg load --count N --seed HEX
       makes a ledger of N requests, at most 100000, on one node over a disk in
       memory, audits it, and writes six lines of it: how many entries, signatures

@@ -82,7 +82,8 @@ pair_fits name node other =
     (either (is name (codes "mark")) (gives tt)
     (either (is name (codes "replicate")) (gives tt)
     (either (is name (codes "stepdown")) (gives tt)
-    (either (is name (codes "stage")) (gives tt) fails))))
+    (either (is name (codes "install")) (gives tt)
+    (either (is name (codes "stage")) (gives tt) fails)))))
 
 member_fits : (ids : List (List ℕ)) (name : List ℕ) (node : ℕ) (rest : List ℕ) → FitLine (member_line ids name node rest)
 unfolding ack_line again_line

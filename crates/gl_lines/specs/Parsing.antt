@@ -42,7 +42,8 @@ pair_line name node other =
     else (if is name (codes "mark") then Ok (lines.Mark node other)
     else (if is name (codes "replicate") then Ok (lines.Replicate node other)
     else (if is name (codes "stepdown") then Ok (lines.StepDown node other)
-    else (if is name (codes "stage") then Ok (lines.Stage node other) else Err NoReading))))
+    else (if is name (codes "install") then Ok (lines.Install node other)
+    else (if is name (codes "stage") then Ok (lines.Stage node other) else Err NoReading)))))
 
 -- A request of 1 to 64 operations.
 abbrev pub request_of : ℕ → List Operation → Result Line LineFault

@@ -91,6 +91,11 @@ pub enum Line {
     Restart {
         node: u128,
     },
+    /// The node, which has no entries, begins from what another one offers of its ledger.
+    Install {
+        node: u128,
+        from: u128,
+    },
     /// Asks for the status of a transaction.
     Status {
         node: u128,

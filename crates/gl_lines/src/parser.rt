@@ -66,6 +66,8 @@ fn pair_line(name: &[u8], node: u128, other: u128) -> Result<Line, LineFault>
         Ok(Line::Replicate { node, to: other })
     } else if name == b"stepdown".as_slice() {
         Ok(Line::StepDown { node, to: other })
+    } else if name == b"install".as_slice() {
+        Ok(Line::Install { node, from: other })
     } else if name == b"stage".as_slice() {
         Ok(Line::Stage { node, other })
     } else {

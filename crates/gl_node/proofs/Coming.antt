@@ -33,7 +33,7 @@ settled_image : (goes_on : LogRules) (place : ℕ) (bytes : List ℕ) (past : Li
 settled_image goes_on place bytes past state next settled is image left =
     subst (OpensToOneOf goes_on state next) (sym (settled.kept image left)) (settled_gate journal_header place bytes past settled, inl is)
 
-same_ok : {T E : Type 0} (a b : T) → ◌≡◌ {A = Result T E} (Ok a) (Ok b) → a ≡ b
+pub same_ok : {T E : Type 0} (a b : T) → ◌≡◌ {A = Result T E} (Ok a) (Ok b) → a ≡ b
 same_ok a b is = cc
 
 module _ {D S Q G R A F : Type 0} (stands : S → Book Entry Q G R A F → Holding Entry → Type 0) (held : S → Kept) (snapshot_of : SnapshotOf) (goes_on : LogRules) (honest : Bool) (bytes : D → List ℕ) (past : D → List Step) (faults : D → ℕ) where

@@ -11,4 +11,6 @@ pub mod Ending
 pub mod Coming
 pub mod Served
 pub mod CoreOverFile
+pub mod Offering
+pub mod Beginning
 pub mod SignedLeaves

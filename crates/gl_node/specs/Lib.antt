@@ -4,6 +4,8 @@ pub mod Persistence
 pub mod Changes
 pub mod Batches
 pub mod Comes
+pub mod Offered
+pub mod Begins
 pub mod Answers
 pub mod Seen
 pub mod Leaves

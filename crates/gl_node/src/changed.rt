@@ -2,8 +2,10 @@
 
 ghost use Rattle.std.specs.Prelude.{◌≡◌, ◌<◌, ◌^◌, All, IsTrue, length, map};
 ghost use Rattle.gl_entry.specs.Entry.{frame_bytes, is_entry};
+ghost use Rattle.gl_rules.specs.Log.{view_at};
 ghost use Rattle.gl_replication.specs.Standing.{At};
 ghost use Rattle.gl_node.specs.Frames.{EachGoesOn};
+ghost use Rattle.gl_node.specs.Offered.{IsTakenIn};
 ghost use Rattle.gl_node.specs.Persistence.{HoldsAbove};
 
 use crate::kept_book::KeptBook;
@@ -31,6 +33,8 @@ pub(crate) fn held_count<B: KeptBook>(book: &B) -> u64
     ensures above { HoldsAbove B.stands B.held B.snapshot_of book.now }
     ensures some { At B.stands book.now (λ b h. B.has_ledger (B.base_snapshot book.now)) }
     ensures leaves { At B.stands book.now (λ b h. b.leaves h.me < 2 ^ 32) }
+    ensures taken_in { At B.stands book.now (λ b h. IsTakenIn B.goes_on h.base
+        (view_at b h.log h.base) (B.base_snapshot book.now)) }
 {
     book.ledger().len() as u64
 }

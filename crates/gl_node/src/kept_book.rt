@@ -3,9 +3,11 @@
 ghost use Rattle.std.specs.Prelude.{◌≡◌, ◌<◌, ◌^◌, ℕ, All, IsTrue, List, Option, map};
 ghost use Rattle.gl_entry.specs.Entry.{frame_bytes, is_entry};
 ghost use Rattle.gl_journal.specs.Durable.{LogRules};
+ghost use Rattle.gl_rules.specs.Log.{view_at};
 ghost use Rattle.gl_replication.specs.Standing.{At};
 ghost use Rattle.gl_node.specs.Frames.{EachGoesOn};
 ghost use Rattle.gl_node.specs.Kept.{Kept};
+ghost use Rattle.gl_node.specs.Offered.{IsTakenIn};
 ghost use Rattle.gl_node.specs.Persistence.{HoldsAbove, SnapshotOf};
 
 use gl_entry::Entry;
@@ -37,5 +39,8 @@ pub trait KeptBook: Book {
         // Of each ledger for which it stands, that is held, and there is such a ledger.
         ensures above { HoldsAbove Self.stands held snapshot_of self.now }
         ensures some { At Self.stands self.now (λ b h. has_ledger (Self.base_snapshot self.now)) }
-        ensures leaves { At Self.stands self.now (λ b h. b.leaves h.me < 2 ^ 32) };
+        ensures leaves { At Self.stands self.now (λ b h. b.leaves h.me < 2 ^ 32) }
+        // A file takes in its snapshot, if it has one, and reads there the base and its view.
+        ensures taken_in { At Self.stands self.now (λ b h. IsTakenIn goes_on h.base
+            (view_at b h.log h.base) (Self.base_snapshot self.now)) };
 }

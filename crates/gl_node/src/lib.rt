@@ -9,6 +9,7 @@ mod changed;
 mod dispatch;
 mod fault;
 mod frames;
+mod install;
 mod kept_book;
 mod laws;
 mod persist;

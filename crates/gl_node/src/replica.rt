@@ -1,23 +1,27 @@
 //! A node that serves from a file.
 
-ghost use Rattle.std.specs.Prelude.{◌≡◌, ◌↔◌, ℕ, List, true, None, Some, Ok, Err, IsTrue, IsSome, IfOk, OnOk};
+ghost use Rattle.std.specs.Prelude.{◌≡◌, ◌↔◌, [], ℕ, List, true, None, Some, Ok, Err, IsTrue, IsSome, IfOk, OnOk};
 ghost use Rattle.gl_outside.specs.Disk.{IsImage, Leaves};
 ghost use Rattle.gl_outside.specs.Fault.{Rose};
 ghost use Rattle.gl_journal.specs.Durable.{Durable as State, durable, OpensToOneOf};
 ghost use Rattle.gl_journal.specs.Kept.{IsAtRest, IsKept};
 ghost use Rattle.gl_replication.specs.Events.{AreFit, IsAccepted, has_few_entries, is_request, rule_of};
-ghost use Rattle.gl_replication.specs.Stands.{KeepsAll, Refuses, Reports, Steps};
+ghost use Rattle.gl_rules.specs.Replication.{install};
+ghost use Rattle.gl_replication.specs.Offers.{kept_after_offer};
+ghost use Rattle.gl_replication.specs.Stands.{Answers, KeepsAll, Refuses, Reports, Stepped, Steps};
 ghost use Rattle.gl_node.specs.Answers.{OnRefusal, stopped_by, stopped_count};
 ghost use Rattle.gl_node.specs.Kept.{kept_after};
+ghost use Rattle.gl_node.specs.Offered.{IsOffered, ReportsOffered, kept_from_base};
 ghost use Rattle.gl_node.specs.Persistence.{IsServing, OpensToCore, StandsForSome};
 
 use crate::changed::held_count;
 use crate::dispatch::dispatch;
 use crate::fault::NodeFault;
+use crate::install::install_at;
 use crate::kept_book::KeptBook;
 use gl_journal::Journal;
 use gl_outside::Disk;
-use gl_replication::{Core, Done, Event};
+use gl_replication::{Core, Done, Event, Offer, Snapshots};
 use std::marker::Model;
 
 /// A node that serves from a file. It is seen as the node, the disk with the file on it, and
@@ -166,5 +170,65 @@ impl<D: Disk, B: KeptBook> Replica<D, B> {
     {
         let journal = self.journal;
         journal.gated.disk
+    }
+}
+
+impl<D: Disk, B: KeptBook + Snapshots> Replica<D, B> {
+    /// A node without entries begins from what another one offers, and once its file keeps the
+    /// snapshot that is answered. A node with entries keeps them.
+    pub fn install(&mut self, offer: Offer) -> Result<Done<B>, NodeFault<B>>
+        requires offered { IsOffered B.stands B.shows offer self.old.core }
+
+        // Of every node that it stands for it is the step of the rules by which it begins from that
+        // one's ledger.
+        ensures steps { IfOk result (λ done. ReportsOffered B.stands B.shows offer self.old.core
+            (λ b x n m. Stepped B.stands b x (install b m n) done self.new.core)) }
+        // A refusal is that of the rule, running out of memory aside, and leaves all as it was.
+        ensures refused { OnRefusal result (λ why. ReportsOffered B.stands B.shows offer
+            self.old.core (λ b x n m. Answers why (install b m n).outcome)) }
+        ensures stays { OnRefusal result (λ why. KeepsAll B.stands self.old.core self.new.core) }
+        ensures same { IsTrue D.honest → OnRefusal result (λ why.
+            (D.bytes self.new.disk ≡ D.bytes self.old.disk)
+            × (D.past self.new.disk ≡ D.past self.old.disk)) }
+
+        // Once it is answered the file keeps it, and so does whatever a stop leaves.
+        ensures kept { IsTrue D.honest → OnOk result (ReportsOffered B.stands B.shows offer
+            self.old.core (λ b x n m. (d : State) →
+            durable B.goes_on (D.bytes self.old.disk) ≡ Ok d →
+            durable B.goes_on (D.bytes self.new.disk)
+            ≡ Ok (kept_from_base B.snapshot_of d (install b m n).node))) }
+        ensures after { IsTrue D.honest → OnOk result (ReportsOffered B.stands B.shows offer
+            self.old.core (λ b x n m. (d : State) →
+            durable B.goes_on (D.bytes self.old.disk) ≡ Ok d →
+            (image : List ℕ) → IsImage (D.past self.new.disk) image →
+            durable B.goes_on image ≡ Ok (kept_from_base B.snapshot_of d (install b m n).node))) }
+        // At every moment, also where the disk fails, a stop leaves a file that keeps the node as
+        // it was or as the rule makes it.
+        ensures any_moment { IsTrue D.honest → self.old.stopped ≡ None →
+            ReportsOffered B.stands B.shows offer self.old.core (λ b x n m. (d : State) →
+            durable B.goes_on (D.bytes self.old.disk) ≡ Ok d →
+            Leaves (OpensToOneOf B.goes_on d (kept_from_base B.snapshot_of d (install b m n).node))
+            (D.past self.old.disk) (D.past self.new.disk)) }
+
+        ensures disk_fault { result ≡ Err NodeFault.DiskFault →
+            Rose (D.faults self.old.disk) (D.faults self.new.disk)
+            × (self.new.stopped ≡ Some (D.faults self.new.disk)) }
+        ensures no_disk_fault { (result ≡ Err NodeFault.DiskFault → ⊥) →
+            (D.faults self.new.disk ≡ D.faults self.old.disk)
+            × (self.new.stopped ≡ self.old.stopped) }
+        ensures quiet { IfOk result (λ done. done.sent ≡ []) }
+        // Its store keeps another body only where it begins from that.
+        ensures body { IfOk result (λ done. B.base_snapshot self.new.core.book
+            ≡ kept_after_offer offer done.outcome (B.base_snapshot self.old.core.book)) }
+        ensures stopped { stopped_count result ≡ self.old.stopped }
+        ensures still { IsSome self.old.stopped → self.new ≡ self.old }
+    {
+        if let Some(count) = self.stopped {
+            return Err(NodeFault::Stopped { count });
+        }
+        let _count = held_count(&self.core.book);
+        let came = install_at(&mut self.core, &mut self.journal, offer);
+        self.stopped = stopped_by(&came, self.journal.gated.disk.faults());
+        came
     }
 }

@@ -8,7 +8,7 @@ ghost use Rattle.gl_rules.specs.Node.{Node};
 ghost use Rattle.gl_rules.specs.Replication.{install, is_evidence_at};
 ghost use Rattle.gl_snapshot_body.specs.declared.body.Body.{Body as Summary};
 ghost use Rattle.gl_replication.specs.Holding.{from_snapshot};
-ghost use Rattle.gl_replication.specs.Offers.{IsOffer, IsShown, Offers, begun_from};
+ghost use Rattle.gl_replication.specs.Offers.{IsOffer, IsShown, IsWritable, Offers, begun_from, kept_after_offer, kept_body};
 ghost use Rattle.gl_replication.specs.Standing.{At, Stays};
 ghost use Rattle.gl_replication.specs.Stands.{Answers, KeepsAll, Reports, StandsFor, Stepped};
 
@@ -31,8 +31,10 @@ pub trait Snapshots: Book {
         requires within { At Self.stands self.now (λ b h. to ≤ length h.log) }
         requires evidence { At Self.stands self.now (λ b h.
             is_evidence_at b (entry_at h.log (to + 1)) ≡ true) }
-        ensures { IfOk result (λ body. At Self.stands self.now (λ b h.
-            shows body b (take to h.log))) };
+        ensures shown { IfOk result (λ body. At Self.stands self.now (λ b h.
+            shows body b (take to h.log))) }
+        ensures writable { IfOk result (λ body. At Self.stands self.now (λ b h.
+            IsWritable body)) };
 
     /// Begins from a snapshot of a ledger, where no entry is there yet.
     fn install(&mut self, body: Body) -> Result<(), AllocError>
@@ -40,7 +42,11 @@ pub trait Snapshots: Book {
         requires shown { IsShown shows body }
         ensures begun { OnOk result (At Self.stands self.old (λ b h. (log : List Item) →
             shows body b log → Self.stands self.new b (from_snapshot h.me log))) }
-        ensures err { OnErr result (Stays Self.stands self.old self.new) };
+        ensures err { OnErr result (Stays Self.stands self.old self.new) }
+        // It keeps the body, where that stands for an entry at least.
+        ensures body { OnOk result (Self.base_snapshot self.new ≡ kept_body body) }
+        ensures snapshot { OnErr result
+            (Self.base_snapshot self.new ≡ Self.base_snapshot self.old) };
 }
 
 /// What a node offers one that begins from its ledger.
@@ -75,6 +81,9 @@ impl<B: Snapshots> Core<B> {
         ensures begun { OnOk result (Reports B.stands self.old (λ b x n. (log : List Item) →
             B.shows body b log → StandsFor B.stands self.new b x (begun_from b log n))) }
         ensures err { OnErr result (KeepsAll B.stands self.old self.new) }
+        ensures body { OnOk result (B.base_snapshot self.new.book ≡ kept_body body) }
+        ensures snapshot { OnErr result
+            (B.base_snapshot self.new.book ≡ B.base_snapshot self.old.book) }
     {
         self.book.install(body)?;
         self.commit = self.book.ledger_len();
@@ -95,6 +104,11 @@ impl<B: Snapshots> Core<B> {
             (m : Node Item) → Offers B.shows offer b m → Answers why (install b m n).outcome)) }
         ensures err { OnErr result (KeepsAll B.stands self.old self.new) }
         ensures quiet { IfOk result (λ done. done.sent ≡ []) }
+        // Its store keeps another body only where it begins from that.
+        ensures body { IfOk result (λ done. B.base_snapshot self.new.book
+            ≡ kept_after_offer offer done.outcome (B.base_snapshot self.old.book)) }
+        ensures snapshot { OnErr result
+            (B.base_snapshot self.new.book ≡ B.base_snapshot self.old.book) }
     {
         if self.book.ledger_len() > 0 {
             return Ok(self.idle());

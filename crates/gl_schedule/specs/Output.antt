@@ -137,6 +137,8 @@ effect_of s t (lines.Advance node) = at_node s node (λ x. Happens (event.Advanc
 effect_of s t (lines.StepDown node to) =
     at_nodes s node to (λ x y. Happens (event.StepDown x y))
 effect_of s t (lines.Restart node) = at_node s node (λ x. Happens (event.Restart x))
+effect_of s t (lines.Install node from) =
+    at_nodes s node from (λ x y. Happens (event.Install x y))
 effect_of s t (lines.Status node id) =
     at_node s node (λ x.
     Answers (status_text (reported_status (book_of s) (t.world.nodes x) id)))

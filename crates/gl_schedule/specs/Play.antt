@@ -71,6 +71,7 @@ event_in (lines.Replicate node to) =
 event_in (lines.Advance node) = Some (events.Advance (byte_number node))
 event_in (lines.StepDown node to) = Some (events.StepDown (byte_number node) (byte_number to))
 event_in (lines.Restart node) = Some (events.Restart (byte_number node))
+event_in (lines.Install node from) = Some (events.Install (byte_number node) (byte_number from))
 event_in other = None
 
 -- ---- requests of governance

@@ -44,6 +44,10 @@ pub(crate) fn event_in(line: Line) -> Result<Event, Line>
         Line::Restart { node } => Ok(Event::Restart {
             node: node_number(node),
         }),
+        Line::Install { node, from } => Ok(Event::Install {
+            node: node_number(node),
+            from: node_number(from),
+        }),
         other => Err(other),
     }
 }

@@ -239,6 +239,16 @@ module _ (keys : NodeKeys) (body : Body) (es log : List Entry) (holds : HoldsLed
         let all = greatest_all keys 0 log in
         end_commit body es ∙ (held_alike service_layers body es log holds valid).last_commit ∙ sym read.greatest ∙ all ∙ (let least : max 0 (greatest_recorded b log) ≡ greatest_recorded b log = omega arith in least)
 
+    -- which is no greater than the seqno of the last entry
+    pub commit_within : greatest_recorded b log ≤ body.base + length es
+    commit_within =
+        let read = is_read service_layers body.base log (held_audited service_layers body es log holds valid) in
+        let all = greatest_all keys 0 log in
+        let low = read.within in
+        let same = read.greatest in
+        let long = held_length service_layers body es log holds in
+        omega (arith, all, low, same, long)
+
     -- ---- nodes
 
     pub nodes_told : (seqno : ℕ) → IsReadBody body → body.base ≤ seqno →

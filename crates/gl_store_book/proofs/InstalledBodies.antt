@@ -18,6 +18,8 @@ use Rattle.gl_snapshot_body.specs.Parsing.{base_at, body_at, body_in, peaks_at, 
 use Rattle.gl_snapshot_body.specs.declared.body.Body.{Body}
 use Rattle.gl_snapshot_body.specs.declared.fault.ShapeFault.{ShapeFault}
 use Rattle.gl_snapshot_body.proofs.Ascending.{required_ok}
+use Rattle.gl_snapshot_body.proofs.BodyLaws.{shape-read}
+use Rattle.gl_ledger.specs.Behind.{IsBaseBody}
 use Rattle.gl_snapshot.specs.Parsing.{body_of as governed_body, governed_by}
 use Rattle.gl_snapshot.proofs.Steps.{by_place_ok}
 use Rattle.gl_journal.specs.declared.installed.Installed.{Installed}
@@ -102,3 +104,8 @@ told_base bytes at is =
     let low = (and_parts (nat_le 1 shape.0.base) (nat_le shape.0.base last_seqno) (shape_based bytes shape.0 shape.1)).0 in
     let above : 0 < shape.0.base = grind (arith, nat_tests, low) in
     (sym base ∙ sym (ap (λ (b : Body). b.base) encoded), omega (arith, base, above))
+
+-- of a body that can be read its own base and view are told
+pub told_again : (body : Body) → IsBaseBody body → told_by (governed_body 0 (body_bytes body)) ≡ Some (told_of body)
+unfolding governed_body
+told_again body read = rw (shape-read 0 body read.fits, read.spelled) refl

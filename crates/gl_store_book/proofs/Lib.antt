@@ -29,12 +29,14 @@ pub mod Openings
 pub mod HeldLedgers
 pub mod FrameLaws
 pub mod InstalledBodies
+pub mod TakenIn
 pub mod CommittedBooks
 pub mod ShownSnapshots
 pub mod ServiceStarts
 pub mod FoldedStates
 pub mod OpeningFolds
 pub mod OpeningSizes
+pub mod FromSnapshots
 pub mod NodeFiles
 pub mod ServedNodes
 pub mod ValidSteps

@@ -1,6 +1,6 @@
 -- The snapshot of a node's ledger before an evidence is one of each ledger that it stands for, and a
 -- node that begins from one stands for that ledger.
-use Rattle.std.proofs.Common.{◌≡◌, ℕ, suc, ◌+◌, ◌-◌, ◌<◌, ◌≤◌, true, List, [], ◌∷◌, length, take, nat_le, slice_get, Option, None, Some, Result, option_map, refl, sym, ap, subst, ◌∙◌, arith, append-nil}
+use Rattle.std.proofs.Common.{◌≡◌, ℕ, zero, suc, ◌+◌, ◌-◌, ◌<◌, ◌≤◌, true, List, [], ◌∷◌, length, take, nat_le, slice_get, Bool, false, ◌==◌, if◌then◌else◌, Option, None, Some, Result, option_map, refl, sym, ap, subst, ◌∙◌, arith, append-nil}
 use Rattle.std.proofs.lemmas.Bool.Decides.{nat_tests}
 use Rattle.gl_rules.specs.Log.{entry_at}
 use Rattle.gl_rules.specs.Replication.{is_evidence_at}
@@ -8,12 +8,12 @@ use Rattle.gl_entry.specs.Entry.{is_evidence, is_signature}
 use Rattle.gl_entry.specs.declared.entry.Content.{Content}
 use Rattle.gl_entry.specs.declared.entry.Content.TheVariants as content
 use Rattle.gl_entry.specs.declared.entry.Entry.{Entry}
-use Rattle.gl_snapshot_body.specs.Body.{body_bytes, is_body, snapshot_limit}
+use Rattle.gl_snapshot_body.specs.Body.{body_bytes, is_body, is_counted, no_body, snapshot_limit}
 use Rattle.gl_snapshot_body.specs.declared.body.Body.{Body}
 use Rattle.gl_snapshot_body.specs.declared.fault.ShapeFault.{ShapeFault}
 use Rattle.gl_snapshot_body.proofs.BodyLaws.{shape-read}
 use Rattle.gl_ledger.specs.Audit.{audited_over}
-use Rattle.gl_ledger.specs.Behind.{IsBaseBody}
+use Rattle.gl_ledger.specs.Behind.{IsBaseBody, IsReadAt}
 use Rattle.gl_ledger.specs.Broken.{breach, broken_by, broken_by_evidence, broken_over}
 use Rattle.gl_ledger.specs.LedgerBook.{ServiceBook, ledger_book}
 use Rattle.gl_ledger.specs.NodeKeys.{NodeKeys, service_layers}
@@ -28,12 +28,13 @@ use Rattle.gl_ledger.proofs.Passing.{passed}
 use Rattle.gl_ledger_base.specs.Ledgers.{HoldsLedger, IsBase}
 use Rattle.gl_ledger_base.proofs.LedgersHeld.{held_broken, held_length, held_next, held_snapshot}
 use Rattle.gl_ledger_base.proofs.LedgersPassing.{passing_from}
-use Rattle.gl_ledger_base.proofs.LedgersReadable.{readable}
+use Rattle.gl_ledger_base.proofs.LedgersReadable.{readable, readable_or_none}
 use Rattle.gl_ledger_base.proofs.LedgersReads.{held_above, held_cut}
 use Rattle.gl_replication.specs.Holding.{Holding, from_snapshot}
-use Rattle.gl_store_book.specs.BasedLedgers.{BasedLedger, IsAudited, IsEncoded, base_of, body_encoded, body_of, body_read}
+use Rattle.gl_replication.specs.Offers.{IsWritable, kept_body}
+use Rattle.gl_store_book.specs.BasedLedgers.{BasedLedger, IsAudited, IsEncoded, base_of, begun_ledger, body_encoded, body_of, body_read}
 use Rattle.gl_store_book.specs.Stands.{NodeStore, Shows, Stands}
-use Rattle.gl_store_book.proofs.HeldLedgers.{base_within}
+use Rattle.gl_store_book.proofs.TailLists.{counted}
 
 -- ---- an evidence
 
@@ -144,14 +145,35 @@ base_counted body log base = subst (λ (b : Body). length log ≡ b.base) base.s
 holds_base : (body : Body) (log : List Entry) → IsBase service_layers body log → HoldsLedger service_layers body [] log
 holds_base body log base = record { below = log; base = base; whole = sym (append-nil log) }
 
--- the ledger of no entries behind it
-abbrev pub begun_ledger : Body → BasedLedger
-begun_ledger body = record { snapshot = Some (body_bytes body); entries = [] }
+-- that of no entries is none
+none_shown : (body : Body) (b : ServiceBook) (log : List Entry) → Shows body b log → body.base ≡ 0 → body ≡ no_body
+none_shown body b log s none = subst (λ (n : ℕ). IsReadAt n body) none (readable_or_none service_layers body log s.base s.within)
 
-pub begun_stands : (old new : NodeStore) (body : Body) (b : ServiceBook) (h : Holding Entry) (log : List Entry) → new ≡ record old { ledger = begun_ledger body } → is_body body ≡ true → Stands old b h → Shows body b log →
+-- and its counts fit their fields
+counted_shown : (body : Body) (b : ServiceBook) (log : List Entry) → Shows body b log → is_counted body ≡ true
+counted_shown body b log s = go body.base refl (readable_or_none service_layers body log s.base s.within)
+  where
+    go : (n : ℕ) → body.base ≡ n → IsReadAt n body → is_counted body ≡ true
+    go zero is none = ap is_counted none
+    go (suc n) is read = counted body read.fits
+
+pub writable : (body : Body) (b : ServiceBook) (log : List Entry) → Shows body b log → IsWritable body
+writable body b log s = record { counted = counted_shown body b log s; within = s.within }
+
+-- what is kept of a body is read as it
+pub kept_again : (body : Body) (b : ServiceBook) (log : List Entry) → Shows body b log → (body_of (kept_body body) ≡ body) × IsEncoded (kept_body body)
+kept_again body b log shows = go (body.base == 0) refl
+  where
+    go : (t : Bool) → (body.base == 0) ≡ t → (body_of (if t then None else Some (body_bytes body)) ≡ body) × IsEncoded (if t then None else Some (body_bytes body))
+    go true is = (sym (none_shown body b log shows (let none : body.base ≡ 0 = grind (arith, nat_tests, is) in none)), tt)
+    go false is =
+        let fits = (shown_readable body b log shows (let some : 0 < body.base = grind (arith, nat_tests, is) in some)).fits in
+        (body_again body fits, spelled_again body fits)
+
+pub begun_stands : (old new : NodeStore) (body : Body) (b : ServiceBook) (h : Holding Entry) (log : List Entry) → new ≡ record old { ledger = begun_ledger body } → Stands old b h → Shows body b log →
     Stands new b (from_snapshot h.me log)
-begun_stands old new body b h log same is s shows =
-    let again = body_again body is in
+begun_stands old new body b h log same s shows =
+    let again = kept_again body b log shows in
     subst (λ (n : NodeStore). Stands n b (from_snapshot h.me log)) (sym same)
     (record {
       keys = s.keys;
@@ -159,21 +181,8 @@ begun_stands old new body b h log same is s shows =
       book = s.book;
       holding = record {
         me = s.holding.me;
-        base = base_counted body log shows.base ∙ sym (ap (λ (c : Body). c.base) again);
-        spelled = spelled_again body is;
-        holds = subst (λ (c : Body). HoldsLedger service_layers c [] log) (sym again) (holds_base body log shows.base);
+        base = base_counted body log shows.base ∙ sym (ap (λ (c : Body). c.base) again.0);
+        spelled = again.1;
+        holds = subst (λ (c : Body). HoldsLedger service_layers c [] log) (sym again.0) (holds_base body log shows.base);
       };
     })
-
-no_entries : (l : List Entry) → length l ≡ 0 → l ≡ []
-no_entries [] is = refl
-no_entries (e ∷ l) is = absurd (omega (arith, is))
-
--- that of no entries is one of no ledger
-pub none_stands : (node : NodeStore) (body : Body) (b : ServiceBook) (h : Holding Entry) (log : List Entry) → body.base ≡ 0 → h.log ≡ [] → Stands node b h → Shows body b log → Stands node b (from_snapshot h.me log)
-none_stands node body b h log none empty s shows =
-    let nothing : log ≡ [] = no_entries log (base_counted body log shows.base ∙ none) in
-    let within = base_within node.ledger h.log s.holding.holds in
-    let base : h.base ≡ 0 = let first = s.holding.base in let short = ap (λ (l : List Entry). length l) empty in omega (arith, within, first, short) in
-    let same : h ≡ from_snapshot h.me log = λ i. record { me = h.me; base = (base ∙ sym (ap (λ (l : List Entry). length l) nothing)) i; log = (empty ∙ sym nothing) i } in
-    subst (Stands node b) same s

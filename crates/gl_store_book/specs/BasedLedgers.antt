@@ -1,6 +1,6 @@
 -- A ledger with a base, as a node keeps it: of its entries up to the base the body of a snapshot
 -- tells what is left of them.
-use Rattle.std.specs.Prelude.{◌≡◌, ℕ, ◌+◌, ◌-◌, List, Option, None, Some, Result, Ok, Err, true, length, take}
+use Rattle.std.specs.Prelude.{◌≡◌, ℕ, ◌+◌, ◌-◌, List, [], Option, None, Some, Result, Ok, Err, true, length, take}
 use Rattle.gl_entry.specs.declared.entry.Entry.{Entry}
 use Rattle.gl_snapshot_body.specs.Body.{body_bytes, is_body, no_body}
 use Rattle.gl_snapshot_body.specs.Parsing.{shape_of}
@@ -13,6 +13,7 @@ use Rattle.gl_ledger.specs.declared.breach.Broken.{Broken}
 use Rattle.gl_ledger.specs.Past.{Past, past_over}
 use Rattle.gl_ledger.specs.Snapshot.{governed_base, requests_over}
 use Rattle.gl_audit.specs.GovState.{Governed}
+use Rattle.gl_replication.specs.Offers.{kept_body}
 
 -- The bytes of the body of the snapshot up to the base, where there is one, and the entries above
 -- the base. Without a snapshot the base is 0, and the entries are a whole ledger.
@@ -42,6 +43,11 @@ IsEncoded (Some bytes) =
 -- A whole ledger, from seqno 1 on.
 abbrev pub whole_ledger : List Entry → BasedLedger
 whole_ledger ledger = record { snapshot = None; entries = ledger }
+
+-- The ledger of no entries behind the base of which the body of a snapshot tells; from seqno 1 on
+-- where that is 0.
+abbrev pub begun_ledger : Body → BasedLedger
+begun_ledger body = record { snapshot = kept_body body; entries = [] }
 
 module _ (l : BasedLedger) where
   abbrev pub base_of : ℕ

@@ -10,3 +10,4 @@ pub mod AtOpening
 pub mod ViewVotes
 pub mod Replicas
 pub mod Restarts
+pub mod FromSnapshot

@@ -75,10 +75,12 @@ impl Book for StoreBook {
     }
 
     /// In a valid ledger the commits that signatures record never fall, so the last is the
-    /// greatest.
+    /// greatest. It is no greater than the seqno of the last entry, also where a snapshot that
+    /// stands for no ledger tells of a greater one.
     fn known_commit(&self) -> u64 {
         let tail = self.ledger.tail();
-        tail.base().max(tail.state().end().commit)
+        let recorded = tail.state().end().commit.min(tail.ledger_len());
+        tail.base().max(recorded)
     }
 
     /// Below the base it is that at the base.

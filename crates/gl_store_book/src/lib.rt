@@ -28,5 +28,5 @@ pub use book_ledger::BookLedger;
 pub use laws::a_stop_forgets_nothing;
 pub use node_file::opening_batch::ViewVote;
 pub use node_file::persist::keep_opening;
-pub use node_file::{LedgerLog, NodeFile, OpeningFault};
+pub use node_file::{LedgerLog, NodeFile, OpeningFault, SnapshotOpening, SourceKind, source_of};
 pub use store_book::StoreBook;

@@ -22,6 +22,7 @@ use std::alloc::Global;
 use std::marker::Model;
 
 mod fault;
+mod from_snapshot;
 mod kept_book;
 mod ledger_log;
 pub(crate) mod opening_batch;
@@ -29,7 +30,8 @@ mod opening_ledger;
 pub(crate) mod persist;
 mod replica;
 
-pub use fault::OpeningFault;
+pub use fault::{OpeningFault, SnapshotOpening};
+pub use from_snapshot::{SourceKind, source_of};
 pub use ledger_log::LedgerLog;
 
 /// No more leaves are reserved than the key has. A journal takes no greater number.

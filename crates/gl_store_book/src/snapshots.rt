@@ -1,9 +1,9 @@
 //! Snapshots of a node's ledger.
 
-ghost use Rattle.std.specs.Prelude.{◌≡◌, ◌≤◌, ◌+◌, [], Some, length, OnOk, OnErr};
+ghost use Rattle.std.specs.Prelude.{◌≡◌, ◌≤◌, ◌<◌, ◌+◌, length, IfOk, OnOk, OnErr};
 ghost use Rattle.gl_ledger.specs.Behind.{IsBaseBody};
-ghost use Rattle.gl_snapshot_body.specs.Body.{body_bytes};
 ghost use Rattle.gl_store.specs.Tail.{ForBodies};
+ghost use Rattle.gl_store_book.specs.BasedLedgers.{begun_ledger};
 
 use crate::book_ledger::BookLedger;
 use crate::store_book::StoreBook;
@@ -23,15 +23,25 @@ fn within(tail: &LedgerTail, seqno: u64) -> u64
     seqno.max(tail.base()).min(tail.ledger_len())
 }
 
-/// Begins a ledger anew behind a base, of which the body of a snapshot tells. Running out of memory
-/// leaves it as it was.
+/// A ledger of no entries: from its start on, where the body of a snapshot is one of no entries, or
+/// else behind the base of which it tells. Fails only where memory runs out.
+fn begun_from(alloc: Global, body: Body) -> Result<BookLedger, AllocError>
+    requires read { 0 < body.base → IsBaseBody body }
+    ensures { IfOk result (λ ledger. ledger ≡ begun_ledger body) }
+{
+    if body.base == 0 {
+        return BookLedger::new(alloc);
+    }
+    BookLedger::from_body(alloc, body)
+}
+
+/// Begins a ledger anew in the same way. Running out of memory leaves it as it was.
 fn begin(ledger: &mut BookLedger, alloc: Global, body: Body) -> Result<(), AllocError>
-    requires read { IsBaseBody body }
-    ensures begun { OnOk result
-        (ledger.new ≡ record { snapshot = Some (body_bytes body); entries = [] }) }
+    requires read { 0 < body.base → IsBaseBody body }
+    ensures begun { OnOk result (ledger.new ≡ begun_ledger body) }
     ensures err { OnErr result (ledger.new ≡ ledger.old) }
 {
-    *ledger = BookLedger::from_body(alloc, body)?;
+    *ledger = begun_from(alloc, body)?;
     Ok(())
 }
 
@@ -45,11 +55,7 @@ impl Snapshots for StoreBook {
         tail.snapshot(within(tail, to))
     }
 
-    /// That of no entries changes nothing.
     fn install(&mut self, body: Body) -> Result<(), AllocError> {
-        if body.base == 0 {
-            return Ok(());
-        }
         begin(&mut self.ledger, self.alloc, body)
     }
 }

@@ -289,3 +289,4 @@ rule_light ids sent (events.Replicate node to) b x n = replicate_light b x (node
 rule_light ids sent (events.Advance node) b x n = advance_light b x n
 rule_light ids sent (events.StepDown node to) b x n = step_down_light b x (node_in ids to) n
 rule_light ids sent (events.Restart node) b x n = restart_light b n
+rule_light ids sent (events.Install node from) b x n = refl

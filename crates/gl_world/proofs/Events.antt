@@ -37,7 +37,7 @@ delivered_at ids (Some m) i e = index_of_at ids m.receiver i e
 -- an event that names its node
 pub named_by : (event : Event) (node : ℕ) →
     (event ≡ events.Timeout node) ⊎ (((x : List Operation) × (event ≡ events.Submit node x)) ⊎ (((x : GovernanceRequest) × (event ≡ events.Govern node x)) ⊎ ((event ≡ events.Reserve node) ⊎ ((event ≡ events.Sign node)
-    ⊎ ((event ≡ events.Evidence node) ⊎ (((x : ℕ) × (event ≡ events.Replicate node x)) ⊎ ((event ≡ events.Advance node) ⊎ (((x : ℕ) × (event ≡ events.StepDown node x)) ⊎ (event ≡ events.Restart node))))))))) →
+    ⊎ ((event ≡ events.Evidence node) ⊎ (((x : ℕ) × (event ≡ events.Replicate node x)) ⊎ ((event ≡ events.Advance node) ⊎ (((x : ℕ) × (event ≡ events.StepDown node x)) ⊎ ((event ≡ events.Restart node) ⊎ ((x : ℕ) × (event ≡ events.Install node x))))))))))) →
     node_named event ≡ Some node
 named_by event node (inl e) = ap node_named e
 named_by event node (inr (inl p)) = ap node_named p.1
@@ -48,7 +48,8 @@ named_by event node (inr (inr (inr (inr (inr (inl e)))))) = ap node_named e
 named_by event node (inr (inr (inr (inr (inr (inr (inl p))))))) = ap node_named p.1
 named_by event node (inr (inr (inr (inr (inr (inr (inr (inl e)))))))) = ap node_named e
 named_by event node (inr (inr (inr (inr (inr (inr (inr (inr (inl p))))))))) = ap node_named p.1
-named_by event node (inr (inr (inr (inr (inr (inr (inr (inr (inr e))))))))) = ap node_named e
+named_by event node (inr (inr (inr (inr (inr (inr (inr (inr (inr (inl e)))))))))) = ap node_named e
+named_by event node (inr (inr (inr (inr (inr (inr (inr (inr (inr (inr p)))))))))) = ap node_named p.1
 
 -- its node is one of these, and that is where it happens
 named_place : (ids : List NodeId) (sent : List (Message Entry)) (event : Event) (node : ℕ) → node_named event ≡ Some node → is_among ids sent event ≡ true →
@@ -64,6 +65,7 @@ named_place ids sent (events.Replicate n to) node e h = let is = same_Some n nod
 named_place ids sent (events.Advance n) node e h = let is = same_Some n node e in (ap (is_number (length ids)) (sym is) ∙ h, ap (node_in ids) is)
 named_place ids sent (events.StepDown n to) node e h = let is = same_Some n node e in (ap (is_number (length ids)) (sym is) ∙ (and_parts (is_number (length ids) n) (is_number (length ids) to) h).0, ap (node_in ids) is)
 named_place ids sent (events.Restart n) node e h = let is = same_Some n node e in (ap (is_number (length ids)) (sym is) ∙ h, ap (node_in ids) is)
+named_place ids sent (events.Install n from) node e h = let is = same_Some n node e in (ap (is_number (length ids)) (sym is) ∙ (and_parts (is_number (length ids) n) (is_number (length ids) from) h).0, ap (node_in ids) is)
 
 pub named_at : (ids : List NodeId) (sent : List (Message Entry)) (event : Event) (node : ℕ) → node_named event ≡ Some node → is_among ids sent event ≡ true →
     slice_get ids (node - 1) ≡ Some (acting_node ids sent event)

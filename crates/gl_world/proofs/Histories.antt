@@ -2,13 +2,13 @@
 use Rattle.std.proofs.Common.{◌≡◌, ◌<◌, ℕ, suc, ◌-◌, Some, slice_get, arith, List, [], ◌∷◌, ◌++◌, map, length, true, false, if◌then◌else◌, refl, sym, ap, subst, ◌∙◌}
 use Rattle.std.proofs.lemmas.List.{map-append}
 use Rattle.gl_rules.specs.Identity.{NodeId}
+use Rattle.gl_rules.specs.Node.{Node}
 use Rattle.gl_rules.specs.Outcome as outcomes
 use Rattle.gl_rules.specs.World.{begin, happens, run}
 use Rattle.gl_rules.specs.Safety.{LeavesAll}
 use Rattle.gl_safety.proofs.Unchanged.{leaves_all}
-use Rattle.gl_ledger.specs.LedgerBook.{ServiceBook}
+use Rattle.gl_entry.specs.declared.entry.Entry.{Entry}
 use Rattle.gl_ledger.specs.declared.response.Response.{Response}
-use Rattle.gl_world.specs.Service.{ServiceEvent}
 use Rattle.gl_election.specs.Bridge.{seen_message}
 use Rattle.gl_replication.specs.Stands.{Answers}
 use Rattle.gl_replication.specs.declared.done.Outcome.{Outcome}
@@ -19,18 +19,14 @@ use Rattle.gl_world.specs.declared.settings.Settings.{Settings}
 use Rattle.gl_world.specs.Founding.{id_of, node_ids}
 use Rattle.gl_world.specs.Group.{book_of}
 use Rattle.gl_world.specs.Happened.{Happened, Refuses, answer_to, is_no_memory, with_event}
-use Rattle.gl_world.specs.Held.{Held, has_node, is_among, may_happen, node_now, seen_event, seen_events, world_now}
+use Rattle.gl_world.specs.Held.{Held, has_node, is_among, is_number, may_happen, node_now, seen_event, seen_events, world_now}
 use Rattle.gl_world.specs.declared.world.nodes.Nodes.{Nodes}
 use Rattle.gl_world.specs.Rules.{bring_few}
-use Rattle.gl_world.specs.Running.{Denies, IsRunning, Keeps, Moves}
+use Rattle.gl_world.specs.Running.{Denies, IsReached, IsRunning, Keeps, Moves, below_base}
 use Rattle.gl_world.specs.WorldNodes.{ServiceRefusal, StandsAs}
 use Rattle.gl_world.specs.World.{ServiceWorld, start_of}
 use Rattle.gl_world.proofs.NodeIds.{count_is, id_at, number_parts}
-
-run_append : (b : ServiceBook) (es fs : List ServiceEvent) (w : ServiceWorld) → run b (es ++ fs) w ≡ run b fs (run b es w)
-unfolding run
-run_append b [] fs w = refl
-run_append b (e ∷ es) fs w = run_append b es fs (happens b w e).world
+use Rattle.gl_world.proofs.Reached.{reached_next, run_append}
 
 pub after_one : (h : Held) (event : Event) → world_now (with_event h event) ≡ (happens (book_of h.settings) (world_now h) (seen_event h.settings event)).world
 unfolding run
@@ -76,14 +72,17 @@ may_as h old event is may = ap (λ (m : Held). may_happen m event) (sym is) ∙ 
 
 module _ {N S : Type 0} (stands : StandsAs N) where
   -- nodes that run for a world run for its like
-  same_world : (h : Held) {ns : Nodes N S} {w v : ServiceWorld} → IsRunning stands h.settings ns w → LeavesAll w v → IsRunning stands h.settings ns v
-  same_world h {ns} {w} {v} r l = record {
+  same_world : (h : Held) {ns : Nodes N S} {w v : ServiceWorld} → IsRunning stands h.settings ns w → LeavesAll w v → IsReached h.settings v → IsRunning stands h.settings ns v
+  same_world h {ns} {w} {v} r l reached = record {
     group = r.group;
     ids = r.ids;
     whole = r.whole;
     stand = λ i c at_i. subst (λ n. stands c (book_of h.settings) (id_of h.settings (suc i)) n) (sym (l.nodes (id_of h.settings (suc i)))) (r.stand i c at_i);
+    below_whole = r.below_whole;
+    below = λ i kept at_i. r.below i kept at_i ∙ sym (ap (λ (n : Node Entry). below_base n) (l.nodes (id_of h.settings (suc i))));
     sent = r.sent ∙ sym l.sent;
     few = ap bring_few l.sent ∙ r.few;
+    reached = reached;
   }
 
   -- the world that is kept: the nodes run for what happened
@@ -104,7 +103,7 @@ module _ {N S : Type 0} (stands : StandsAs N) where
   kept_refused new h event why z r keeps denies here =
       let by = refused_by why (answer_to h event) z (denies h.settings (world_now h) r here) in
       subst (λ (w : ServiceWorld). IsRunning stands h.settings new w) (sym (after_one h event))
-      (same_world h (keeps h.settings (world_now h) r) (leaves_all (book_of h.settings) (world_now h) (seen_event h.settings event) by.0 by.1))
+      (same_world h (keeps h.settings (world_now h) r) (leaves_all (book_of h.settings) (world_now h) (seen_event h.settings event) by.0 by.1) (reached_next r.reached (seen_event h.settings event)))
 
   -- with the list of events as it is kept
   pub more : {ns : Nodes N S} (h : Held) (event : Event) (items : List Event) → items ≡ h.events ++ event ∷ [] → IsKept ns (with_event h event) → IsKept ns (record { settings = h.settings; events = items })
@@ -130,6 +129,10 @@ module _ {N S : Type 0} (stands : StandsAs N) where
   may_here {ns} h old event is r =
       ap (λ ids. is_among ids (map seen_message ns.sent.items) event) r.ids ∙ ap (λ sent. is_among (node_ids h.settings) sent event) r.sent
       ∙ ap (λ (m : Held). may_happen m event) (sym is)
+
+  -- a number of a node of the world is one of the nodes that run
+  pub named_here : {ns : Nodes N S} (h old : Held) (number : ℕ) → old ≡ h → IsKept ns h → has_node old number ≡ true → is_number (length ns.ids.items) number ≡ true
+  named_here {ns} h old number is r here = ap (λ ids. is_number (length ids) number) r.ids ∙ ap (λ (m : Held). has_node m number) (sym is) ∙ here
 
   -- a node of a number
   pub core_here : {ns : Nodes N S} (h old : Held) (number : ℕ) → old ≡ h → IsKept ns h → has_node old number ≡ true → (number - 1 < length ns.nodes.items) × (number - 1 < length ns.ids.items)

@@ -11,6 +11,8 @@ pub mod MemberSigners
 pub mod NodeIds
 pub mod SentCounts
 pub mod Carrying
+pub mod Bases
+pub mod Reached
 pub mod Worlds
 pub mod Histories
 pub mod Events

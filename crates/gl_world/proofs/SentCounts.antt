@@ -294,3 +294,4 @@ rule_few ids sent (events.Replicate node to) b x n = replicate_few b x (node_in 
 rule_few ids sent (events.Advance node) b x n = advance_few b x n
 rule_few ids sent (events.StepDown node to) b x n = step_down_few b x (node_in ids to) n
 rule_few ids sent (events.Restart node) b x n = restart_few b n
+rule_few ids sent (events.Install node from) b x n = omega arith

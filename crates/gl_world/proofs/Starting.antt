@@ -1,7 +1,10 @@
 -- The nodes at the start, by their numbers.
-use Rattle.std.proofs.Common.{◌≡◌, ◌⊎◌, inl, inr, ⊎_elim, ℕ, zero, suc, ◌+◌, ◌-◌, ◌<◌, ◌≤◌, List, [], ◌∷◌, ◌++◌, length, map, Bool, true, false, ◌||◌, nat_le, Some, slice_get, refl, sym, ◌∙◌, ap, subst, arith, if◌then◌else◌}
+use Rattle.std.proofs.Common.{◌≡◌, ◌⊎◌, inl, inr, ⊎_elim, ℕ, zero, suc, ◌+◌, ◌-◌, ◌<◌, ◌≤◌, List, [], ◌∷◌, ◌++◌, length, map, take, Bool, true, false, ◌||◌, nat_le, Some, slice_get, refl, sym, ◌∙◌, ap, subst, arith, if◌then◌else◌}
 use Rattle.std.proofs.lemmas.Bool.Decides.{nat_tests}
 use Rattle.std.proofs.lemmas.Bool.{cases_lt}
+use Rattle.std.proofs.lemmas.List.{length-append}
+use Rattle.std.specs.declared.alloc.Global.{Global}
+use Rattle.std.specs.declared.vec.Vec.{Vec}
 use Rattle.gl_entry.specs.declared.entry.Entry.{Entry}
 use Rattle.gl_rules.specs.Identity.{NodeId, same, member}
 use Rattle.gl_rules.specs.World.{begin, joiner, leader_at_start, node_at_start, starter}
@@ -21,6 +24,7 @@ use Rattle.gl_world.specs.World.{start_of}
 use Rattle.gl_world.specs.WorldNodes.{ServiceCore, StandsAs}
 use Rattle.gl_world.proofs.NodeIds.{numbers_apart}
 use Rattle.gl_world.proofs.Numbers.{member_made}
+use Rattle.gl_world.proofs.Reached.{reached_first}
 
 -- what is made of a number is among those made
 member_number : (f : ℕ → NodeId) (first count number : ℕ) → first ≤ number → number < first + count → member (f number) (map f (numbers_from first count)) ≡ true
@@ -130,15 +134,45 @@ one_id s i ids more x so_far is grown =
     ∙ ap (λ (y : NodeId). map (id_of s) (numbers_from 1 i) ++ y ∷ []) (is ∙ ap (id_of s) place)
     ∙ sym (numbers_more (id_of s) 1 i) ∙ ap (λ (k : ℕ). map (id_of s) (numbers_from 1 k)) next
 
+-- ---- what stands below the bases of nodes that start
+
+-- so many lists without entries
+abbrev pub AreEmpty : ℕ → List (Vec Entry Global) → Type 0
+AreEmpty count lists = (length lists ≡ count) × ((i : ℕ) (kept : Vec Entry Global) → slice_get lists i ≡ Some kept → kept.items ≡ [])
+
+-- one more
+pub one_empty : (i : ℕ) (lists more : List (Vec Entry Global)) (new : Vec Entry Global) → AreEmpty i lists → new.items ≡ [] → more ≡ lists ++ new ∷ [] → AreEmpty (i + 1) more
+one_empty i lists more new so_far is grown = (
+  ap length grown ∙ length-append lists (new ∷ []) ∙ ap (λ (k : ℕ). k + 1) so_far.0,
+  λ j kept at_j. each lists j kept so_far.1 (ap (λ l. slice_get l j) (sym grown) ∙ at_j),
+)
+  where
+    each : (ls : List (Vec Entry Global)) (j : ℕ) (kept : Vec Entry Global) → ((l : ℕ) (k : Vec Entry Global) → slice_get ls l ≡ Some k → k.items ≡ []) → slice_get (ls ++ new ∷ []) j ≡ Some kept → kept.items ≡ []
+    each [] zero kept all at_j = let same : new ≡ kept = cc in ap (λ (v : Vec Entry Global). v.items) (sym same) ∙ is
+    each [] (suc j) kept all at_j = absurd (cc)
+    each (l ∷ ls) zero kept all at_j = all zero kept at_j
+    each (l ∷ ls) (suc j) kept all at_j = each ls j kept (λ a k at_a. all (suc a) k at_a) at_j
+
+no_base : (s : Settings) (x : NodeId) → (node_at_start (start_of s) x).base ≡ 0
+no_base s x = go (same x (start_of s).first) (member x (start_of s).starting)
+  where
+    go : (t u : Bool) → (if t then leader_at_start (start_of s) else (if u then starter (start_of s) else joiner)).base ≡ 0
+    go true u = refl
+    go false true = refl
+    go false false = refl
+
 module _ {N S : Type 0} (stands : StandsAs N) (s : Settings) where
   -- once all have started they run
-  pub all_started : (ns : Nodes N S) → IsGroup s → AreAtStart stands s ns.nodes.items → ns.ids.items ≡ map (id_of s) (numbers_from 1 (length ns.nodes.items)) → ns.sent.items ≡ [] →
+  pub all_started : (ns : Nodes N S) → IsGroup s → AreAtStart stands s ns.nodes.items → ns.ids.items ≡ map (id_of s) (numbers_from 1 (length ns.nodes.items)) → AreEmpty (length ns.nodes.items) ns.below.items → ns.sent.items ≡ [] →
       IsRunning stands s ns (begin (start_of s))
-  all_started ns h at_start ids sent = record {
+  all_started ns h at_start ids empty sent = record {
     group = h;
     ids = ids ∙ ap (λ (k : ℕ). map (id_of s) (numbers_from 1 k)) at_start.count;
     whole = at_start.count;
     stand = at_start.stand;
+    below_whole = empty.0 ∙ at_start.count;
+    below = λ i kept at_i. empty.1 i kept at_i ∙ ap (λ (k : ℕ). take k (node_at_start (start_of s) (id_of s (suc i))).log) (sym (no_base s (id_of s (suc i))));
     sent = ap (map seen_message) sent;
     few = refl;
+    reached = reached_first s;
   }

@@ -34,6 +34,7 @@ seen_event s (events.Replicate node to) = rules.Replicate (id_of s node) (id_of 
 seen_event s (events.Advance node) = rules.Advance (id_of s node)
 seen_event s (events.StepDown node to) = rules.StepDown (id_of s node) (id_of s to)
 seen_event s (events.Restart node) = rules.Restart (id_of s node)
+seen_event s (events.Install node from) = rules.Install (id_of s node) (id_of s from)
 
 abbrev pub seen_events : Held → List ServiceEvent
 seen_events h = map (seen_event h.settings) h.events
@@ -61,6 +62,7 @@ node_named (events.Replicate node to) = Some node
 node_named (events.Advance node) = Some node
 node_named (events.StepDown node to) = Some node
 node_named (events.Restart node) = Some node
+node_named (events.Install node from) = Some node
 
 -- The index of a node among these.
 abbrev pub index_of : List NodeId → NodeId → Option ℕ
@@ -91,6 +93,8 @@ is_among ids sent (events.Advance node) = is_number (length ids) node
 is_among ids sent (events.StepDown node to) =
     is_number (length ids) node && is_number (length ids) to
 is_among ids sent (events.Restart node) = is_number (length ids) node
+is_among ids sent (events.Install node from) =
+    is_number (length ids) node && is_number (length ids) from
 
 -- It is the number of a node that starts or joins.
 abbrev pub has_node : Held → ℕ → Bool

@@ -1,5 +1,5 @@
 -- The rule of an event of a world, at the node where it happens.
-use Rattle.std.specs.Prelude.{ℕ, ◌-◌, List, [], Option, None, Some, Bool, true, max, length, nat_le, slice_get, get_or, if◌then◌else◌}
+use Rattle.std.specs.Prelude.{ℕ, ◌-◌, List, [], Option, None, Some, Bool, true, false, max, length, nat_le, slice_get, get_or, if◌then◌else◌}
 use Rattle.std.specs.List.{list_all}
 use Rattle.gl_entry.specs.declared.entry.Entry.{Entry}
 use Rattle.gl_rules.specs.Identity.{NodeId, same}
@@ -39,6 +39,7 @@ acting_node ids sent (events.Replicate node to) = node_in ids node
 acting_node ids sent (events.Advance node) = node_in ids node
 acting_node ids sent (events.StepDown node to) = node_in ids node
 acting_node ids sent (events.Restart node) = node_in ids node
+acting_node ids sent (events.Install node from) = node_in ids node
 
 -- A message that reaches another node than that which it is for is dropped.
 abbrev pub delivery : Option (Message Entry) → Rule
@@ -46,7 +47,23 @@ delivery None b x n = idle n
 delivery (Some m) b x n =
     if same m.receiver x then on_message b (message_to x m.sender m.view m.body) n else idle n
 
--- The rule of an event, at the node where it happens.
+-- A node begins from another one's ledger.
+abbrev pub is_install : Event → Bool
+is_install (events.Timeout node) = false
+is_install (events.Deliver message) = false
+is_install (events.Submit node request) = false
+is_install (events.Govern node request) = false
+is_install (events.Reserve node) = false
+is_install (events.Sign node) = false
+is_install (events.Evidence node) = false
+is_install (events.Replicate node to) = false
+is_install (events.Advance node) = false
+is_install (events.StepDown node to) = false
+is_install (events.Restart node) = false
+is_install (events.Install node from) = true
+
+-- The rule of an event, at the node where it happens. That of an Install takes another node too, so
+-- it is told apart.
 abbrev pub rule_of : List NodeId → List (Message Entry) → Event → Rule
 rule_of ids sent (events.Timeout node) b x n = timeout b x n
 rule_of ids sent (events.Deliver message) b x n = delivery (slice_get sent message) b x n
@@ -59,6 +76,7 @@ rule_of ids sent (events.Replicate node to) b x n = replicate b x (node_in ids t
 rule_of ids sent (events.Advance node) b x n = advance b x n
 rule_of ids sent (events.StepDown node to) b x n = step_down b x (node_in ids to) n
 rule_of ids sent (events.Restart node) b x n = restart b n
+rule_of ids sent (events.Install node from) b x n = idle n
 
 -- So many messages an event at a node sends at most: one, or one to each node that its log records
 -- up to its last signature.

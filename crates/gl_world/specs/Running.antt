@@ -1,6 +1,10 @@
 -- Nodes that run for a world of the rules, and what an event makes of them.
-use Rattle.std.specs.Prelude.{◌≡◌, ℕ, suc, ◌+◌, Some, true, map, length, slice_get}
-use Rattle.gl_rules.specs.World.{happens}
+use Rattle.std.specs.Prelude.{◌≡◌, ℕ, suc, ◌+◌, List, Some, true, map, length, take, slice_get}
+use Rattle.std.specs.declared.alloc.Global.{Global}
+use Rattle.std.specs.declared.vec.Vec.{Vec}
+use Rattle.gl_rules.specs.Node.{Node}
+use Rattle.gl_rules.specs.World.{after, happens}
+use Rattle.gl_entry.specs.declared.entry.Entry.{Entry}
 use Rattle.gl_ledger.specs.declared.response.Response.{Response}
 use Rattle.gl_ledger.specs.declared.response.Rejection.{Rejection}
 use Rattle.gl_election.specs.Bridge.{seen_message}
@@ -13,20 +17,34 @@ use Rattle.gl_world.specs.Founding.{id_of, node_ids}
 use Rattle.gl_world.specs.Group.{IsGroup, book_of}
 use Rattle.gl_world.specs.Held.{is_among, seen_event}
 use Rattle.gl_world.specs.Rules.{bring_few}
-use Rattle.gl_world.specs.World.{ServiceWorld}
+use Rattle.gl_world.specs.Service.{ServiceEvent}
+use Rattle.gl_world.specs.World.{ServiceWorld, start_of}
 use Rattle.gl_world.specs.WorldNodes.{ServiceRefusal, StandsAs}
 
+-- The world of the rules after some events of the service.
+pub record IsReached (s : Settings) (w : ServiceWorld) : Type 0 where
+  pub events : List ServiceEvent
+  pub is : w ≡ after (book_of s) (start_of s) events
+
+-- What stands below a node's base.
+abbrev pub below_base : Node Entry → List Entry
+below_base n = take n.base n.log
+
 module _ {N S : Type 0} (stands : StandsAs N) where
-  -- Each node stands for that of the rules with its number, what was sent is what was sent there,
-  -- and each message brings few entries.
+  -- Each node stands for that of the rules with its number, with what stands below its base beside
+  -- it; what was sent is what was sent there, and each message brings few entries.
   pub record IsRunning (s : Settings) (ns : Nodes N S) (w : ServiceWorld) : Type 0 where
     pub group : IsGroup s
     pub ids : ns.ids.items ≡ node_ids s
     pub whole : length ns.nodes.items ≡ s.starting + s.joiners
     pub stand : (i : ℕ) (c : N) → slice_get ns.nodes.items i ≡ Some c →
         stands c (book_of s) (id_of s (suc i)) (w.nodes (id_of s (suc i)))
+    pub below_whole : length ns.below.items ≡ s.starting + s.joiners
+    pub below : (i : ℕ) (kept : Vec Entry Global) → slice_get ns.below.items i ≡ Some kept →
+        kept.items ≡ below_base (w.nodes (id_of s (suc i)))
     pub sent : map seen_message ns.sent.items ≡ w.sent
     pub few : bring_few w.sent ≡ true
+    pub reached : IsReached s w
 
   -- The nodes run for some world.
   pub record RunSome (ns : Nodes N S) : Type 0 where

@@ -54,4 +54,9 @@ pub enum Event {
     Restart {
         node: u8,
     },
+    /// The node, which has no entries, begins from what another one offers of its ledger.
+    Install {
+        node: u8,
+        from: u8,
+    },
 }

@@ -180,8 +180,18 @@ impl<N: WorldNode> World<N> {
         self.nodes.nodes[usize::from(node) - 1].core().stage(&id)
     }
 
+    /// The committed ledger of a node, whole from seqno 1, in memory of its own. Fails only where
+    /// memory runs out.
+    pub fn committed(&self, node: u8) -> Result<Vec<Entry>, AllocError>
+        requires here { has_node self.now node ≡ true }
+        ensures { IfOk result (λ entries.
+            entries.items ≡ committed_ledger (node_now self.now node)) }
+    {
+        self.nodes.committed(node)
+    }
+
     /// The committed entries of a node above its base, in order.
-    pub fn committed(&self, node: u8) -> &[Entry]
+    pub fn committed_entries(&self, node: u8) -> &[Entry]
         requires here { has_node self.now node ≡ true }
         ensures { result.now
             ≡ drop (node_now self.now node).base (committed_ledger (node_now self.now node)) }

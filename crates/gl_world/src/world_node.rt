@@ -1,17 +1,21 @@
 //! A node of a world.
 
-ghost use Rattle.std.specs.Prelude.{◌≡◌, true, map, IfOk, IfErr, OnErr};
+ghost use Rattle.std.specs.Prelude.{◌≡◌, true, false, map, IfOk, IfErr, OnErr};
+ghost use Rattle.gl_rules.specs.Node.{Node};
+ghost use Rattle.gl_rules.specs.Replication.{install};
+ghost use Rattle.gl_entry.specs.declared.entry.Entry.{Entry as Item};
 ghost use Rattle.gl_election.specs.Bridge.{seen_message};
-ghost use Rattle.gl_replication.specs.Stands.{StandsFor};
+ghost use Rattle.gl_replication.specs.Offers.{Offers};
+ghost use Rattle.gl_replication.specs.Stands.{Answers, StandsFor};
 ghost use Rattle.gl_world.specs.Held.{is_among};
-ghost use Rattle.gl_world.specs.Rules.{bring_few, rule_of};
-ghost use Rattle.gl_world.specs.WorldNodes.{KeepsAll, OfEach, Refuses, StandsAs, Steps};
+ghost use Rattle.gl_world.specs.Rules.{bring_few, is_install, rule_of};
+ghost use Rattle.gl_world.specs.WorldNodes.{IsOffered, KeepsAll, OfEach, Refuses, StandsAs, Stepped, Steps};
 
 use crate::event::Event;
 use gl_entry::NodeId;
 use gl_ledger::{Reads, Rejection, Response};
 use gl_messages::Message;
-use gl_replication::{Book, Core, Done, Refusal};
+use gl_replication::{Book, Core, Done, Offer, Refusal, Snapshots};
 use gl_requests::GovernanceRequest;
 use gl_tx::Request;
 
@@ -26,7 +30,8 @@ pub trait WorldNode: Drop {
         Reads = Reads,
         Response = Response,
         Refused = Rejection,
-    >;
+    >
+        + Snapshots;
 
     // Under these rules it stands for this node of them.
     ghost stands: { StandsAs Self };
@@ -35,9 +40,9 @@ pub trait WorldNode: Drop {
     fn core(&self) -> &Core<Self::Book>
         ensures { OfEach stands self.now (λ b x n. StandsFor Self.Book.stands result.now b x n) };
 
-    /// An event of the world happens at the node, among the nodes with these identifiers, after
-    /// these messages: of each node that it stands for it is the rule's step. A refusal is that of
-    /// the rule, running out of memory aside, and leaves all as it was.
+    /// An event of the world other than an Install happens at the node, among the nodes with these
+    /// identifiers, after these messages: of each node that it stands for it is the rule's step. A
+    /// refusal is that of the rule, running out of memory aside, and leaves all as it was.
     fn apply_event(
         &mut self,
         ids: &[NodeId],
@@ -45,10 +50,23 @@ pub trait WorldNode: Drop {
         event: &Event,
     ) -> Result<Done<Self::Book>, Refusal<Self::Book>>
         requires among { is_among ids.now (map seen_message sent.now) event.now ≡ true }
+        requires alone { is_install event.now ≡ false }
         requires few { bring_few (map seen_message sent.now) ≡ true }
         ensures steps { IfOk result (λ done. Steps stands
             (rule_of ids.now (map seen_message sent.now) event.now) self.old done self.new) }
         ensures refused { IfErr result (λ why. Refuses stands
             (rule_of ids.now (map seen_message sent.now) event.now) self.old why) }
+        ensures err { OnErr result (KeepsAll stands self.old self.new) };
+
+    /// The node, where it has no entries, begins from what another one offers: of each node that it
+    /// stands for it is the rule's step. A refusal is that of the rule, running out of memory aside,
+    /// and leaves all as it was.
+    fn install(&mut self, offer: Offer) -> Result<Done<Self::Book>, Refusal<Self::Book>>
+        requires offered { IsOffered stands Self.Book.shows self.old offer }
+        ensures steps { IfOk result (λ done. OfEach stands self.old (λ b x n. (m : Node Item) →
+            Offers Self.Book.shows offer b m →
+            Stepped stands b x (install b m n) done self.new)) }
+        ensures refused { IfErr result (λ why. OfEach stands self.old (λ b x n. (m : Node Item) →
+            Offers Self.Book.shows offer b m → Answers why (install b m n).outcome)) }
         ensures err { OnErr result (KeepsAll stands self.old self.new) };
 }

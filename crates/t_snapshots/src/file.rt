@@ -53,7 +53,7 @@ fn assembled(alloc: Global, body: &[u8], receipt: &[u8], frame: &[u8]) -> Option
 }
 
 /// The file of the snapshot at 2.4.
-fn file(alloc: Global) -> Option<Vec<u8>> {
+pub fn file(alloc: Global) -> Option<Vec<u8>> {
     let frames = frames(alloc)?;
     let (from, to) = EVIDENCE;
     let frame = frames.get(from..to)?;
@@ -140,7 +140,7 @@ fn a_file_that_is_cut_is_refused(rt: HostRuntime) -> Result<(), Fail> {
 }
 
 /// Bytes with the lowest bit of one changed.
-fn changed(alloc: Global, bytes: &[u8], at: usize) -> Option<Vec<u8>> {
+pub fn changed(alloc: Global, bytes: &[u8], at: usize) -> Option<Vec<u8>> {
     let mut changed = Vec::from_slice(alloc, bytes).ok()?;
     *changed.get_mut(at)? ^= 1;
     Some(changed)

@@ -6,6 +6,8 @@
 #[cfg(test)]
 mod bases;
 #[cfg(test)]
+mod begun;
+#[cfg(test)]
 mod bodies;
 #[cfg(test)]
 mod file;

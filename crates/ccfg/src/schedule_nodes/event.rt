@@ -1,9 +1,9 @@
 //! An event of a world as the node knows it where it happens.
 
-ghost use Rattle.std.specs.Prelude.{◌≡◌, true, map, IfOk};
+ghost use Rattle.std.specs.Prelude.{◌≡◌, true, false, map, IfOk};
 ghost use Rattle.gl_election.specs.Bridge.{seen_message};
 ghost use Rattle.gl_world.specs.Held.{is_among};
-ghost use Rattle.gl_world.specs.Rules.{bring_few, rule_of};
+ghost use Rattle.gl_world.specs.Rules.{bring_few, is_install, rule_of};
 ghost use Rattle.ccfg.specs.FileNodes.{IsEventOf};
 
 use crate::schedule_nodes::copies::copy_message;
@@ -14,8 +14,8 @@ use gl_store_book::StoreBook;
 use gl_world::Event;
 use std::alloc::{AllocError, Global};
 
-/// An event of a world as the node knows it where it happens, among the nodes with these
-/// identifiers, after these messages. A restart is no event of a node.
+/// An event of a world other than an Install as the node knows it where it happens, among the
+/// nodes with these identifiers, after these messages. A restart is no event of a node.
 pub(crate) fn node_event(
     alloc: Global,
     ids: &[NodeId],
@@ -23,6 +23,7 @@ pub(crate) fn node_event(
     event: &Event,
 ) -> Result<Option<NodeEvent<StoreBook>>, AllocError>
     requires among { is_among ids.now (map seen_message sent.now) event.now ≡ true }
+    requires alone { is_install event.now ≡ false }
     requires few { bring_few (map seen_message sent.now) ≡ true }
     ensures { IfOk result
         (IsEventOf (rule_of ids.now (map seen_message sent.now) event.now)) }
@@ -48,5 +49,6 @@ pub(crate) fn node_event(
         Event::Advance { .. } => Ok(Some(NodeEvent::Advance)),
         Event::StepDown { to, .. } => Ok(Some(NodeEvent::StepDown(ids[usize::from(*to) - 1]))),
         Event::Restart { .. } => Ok(None),
+        Event::Install { .. } => unreachable!(),
     }
 }

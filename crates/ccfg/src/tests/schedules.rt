@@ -73,6 +73,53 @@ const EVIDENCE_SENT: Lines<'static> = &[
     ("status 2 2.5", "Pending"),
 ];
 
+/// A node that joins begins from a snapshot. It tells of no entry that came by that, and takes what
+/// follows, also behind entries that it skips.
+const INSTALLED: Lines<'static> = &[
+    ("install 2 1", "refused 81 2"),
+    ("submit 1 put public:t 61 01", "accepted 2.3 done"),
+    ("evidence 1", "refused 129"),
+    ("reserve 1", "ok"),
+    ("sign 1", "signed 2.4"),
+    ("evidence 1", "signed 2.5"),
+    ("reserve 1", "ok"),
+    ("sign 1", "signed 2.6"),
+    // The signature above the evidence isn't committed yet.
+    ("install 2 1", "refused 81 2"),
+    ("advance 1", "commit 2.6"),
+    ("install 1 2", "idle"),
+    ("install 2 2", "refused 81 0"),
+    ("install 3 1", "refused 0"),
+    ("install 2 3", "refused 0"),
+    ("install 2 1", "ok"),
+    ("install 2 1", "idle"),
+    ("ids 2", "ids"),
+    ("status 2 2.3", "Committed"),
+    ("status 2 2.5", "Unknown"),
+    ("replicate 1 2", "refused 126"),
+    ("ack 1 1", "accepted 2.7"),
+    ("join 1 2", "accepted 2.8"),
+    (
+        concat!(
+            r#"propose 1 1 {"actions":["#,
+            r##"{"args":{"node":"#2"},"name":"transition_node_to_trusted"}]}"##
+        ),
+        "accepted 2.9 proposal 1 Open",
+    ),
+    ("ballot 1 1 1 yes", "accepted 2.10 proposal 1 Accepted"),
+    ("reserve 1", "ok"),
+    ("sign 1", "signed 2.11"),
+    ("replicate 1 2", "ok sent 1"),
+    ("deliver 1", "ok sent 2"),
+    ("ids 2", "ids 2.5 2.6"),
+    ("deliver 2", "ok"),
+    ("advance 1", "commit 2.11"),
+    ("restart 2", "ok"),
+    ("ids 2", "ids 2.5 2.6"),
+    ("status 2 2.3", "Committed"),
+    ("status 2 2.11", "Pending"),
+];
+
 const NOT_OPEN: Lines<'static> = &[
     ("submit 1 put public:t 61 01", "refused 51 1"),
     ("sign 2", "refused 0"),
@@ -168,7 +215,7 @@ const COMMITS: &[Run<'static>] = &[
     },
 ];
 
-/// Evidence of snapshots.
+/// Evidence of snapshots, and a node that begins from one.
 const EVIDENCES: &[Run<'static>] = &[
     Run {
         name: "evidence after signatures",
@@ -180,6 +227,12 @@ const EVIDENCES: &[Run<'static>] = &[
         name: "evidence at a follower",
         input: &[World("3 0 1 open"), Asked(EVIDENCE_SENT)],
         output: Output::Is(&[Text("1 ok\n"), Answered(2, EVIDENCE_SENT)]),
+        ..REPLAY
+    },
+    Run {
+        name: "a node that begins from a snapshot",
+        input: &[World("1 1 1 open"), Asked(INSTALLED)],
+        output: Output::Is(&[Text("1 ok\n"), Answered(2, INSTALLED)]),
         ..REPLAY
     },
 ];

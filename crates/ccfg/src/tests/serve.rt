@@ -110,6 +110,17 @@ const LINKS: &[Run<'static>] = &[
     },
 ];
 
+/// A node that doesn't begin with what its source gives: its file, which has no ledger, stays as it
+/// is.
+const REFUSED: Run<'static> = Run {
+    piece: 65_536,
+    disk: Some(&[All(Disk("the node"))]),
+    status: 1,
+    disk_after: Some(&[All(Disk("the node"))]),
+    is_read_whole: Some(true),
+    ..NODE
+};
+
 /// What isn't taken, and calls that fail.
 const FAILURES: &[Run<'static>] = &[
     Run {
@@ -119,16 +130,34 @@ const FAILURES: &[Run<'static>] = &[
         output: Output::Is(&[Text("fault NotOpening 1\n")]),
         ..BEGINNING
     },
-    // There is no limit on what the source gives.
+    // There is no limit on what the source gives. Where its first frame reads it is a ledger: here
+    // two entries stand before what is no third one.
     Run {
         name: "an opening ledger of more than 1 MiB",
+        input: &[All(Written("the opening")), Times(&[0], 1_048_577)],
+        output: Output::Is(&[Text("fault NotOpening 3\n")]),
+        ..REFUSED
+    },
+    // Else it can be a snapshot alone: the length of its body in four bytes, and the body, which
+    // begins with its base in eight.
+    Run {
+        name: "a source of one byte",
+        input: &[Hex("01")],
+        output: Output::Is(&[Text("fault Shape 1\n")]),
+        ..REFUSED
+    },
+    Run {
+        name: "half a body of a snapshot",
+        input: &[Hex("40000000 0200000000000000 02000000")],
+        output: Output::Is(&[Text("fault Shape 16\n")]),
+        in_turn: &[InTurn::Reads, InTurn::Writes],
+        ..REFUSED
+    },
+    Run {
+        name: "a snapshot without a body, and more than 1 MiB",
         input: &[Times(&[0], 1_048_577)],
-        piece: 65_536,
-        disk: Some(&[All(Disk("the node"))]),
-        status: 1,
-        output: Output::Is(&[Text("fault NotOpening 1\n")]),
-        is_read_whole: Some(true),
-        ..NODE
+        output: Output::Is(&[Text("fault Shape 4\n")]),
+        ..REFUSED
     },
     Run {
         name: "a put that is refused",

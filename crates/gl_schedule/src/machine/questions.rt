@@ -60,7 +60,7 @@ impl<N: WorldNode> Machine<N> {
         if !self.world.has_node(node) {
             return put_unnamed(out);
         }
-        put_ids(out, self.world.committed(node))
+        put_ids(out, self.world.committed_entries(node))
     }
 
     /// The entries of a node's log.

@@ -3,9 +3,11 @@
 ghost use Rattle.std.specs.Prelude.{◌≡◌};
 ghost use Rattle.gl_base.specs.declared.or_no_memory.OrNoMemory.TheVariants.{Fault};
 ghost use Rattle.gl_store_book.specs.declared.node_file.fault.OpeningFault.TheVariants as faults;
+ghost use Rattle.gl_store_book.specs.declared.node_file.fault.SnapshotOpening.TheVariants as from_snapshot;
 
 use gl_base::OrNoMemory;
 use gl_journal::{JournalFault, KeyKind};
+use gl_snapshot::SnapshotFault;
 use thiserror::Error;
 
 /// Why a node's file can't be opened, or can't begin with an opening ledger.
@@ -41,5 +43,24 @@ impl From<OpeningFault> for OrNoMemory<OpeningFault> {
 
     fn from(fault: OpeningFault) -> OrNoMemory<OpeningFault> {
         OrNoMemory::Fault(fault)
+    }
+}
+
+/// Why a node's file can't begin from a snapshot.
+#[derive(Clone, Copy, Debug, PartialEq, Eq, Error)]
+pub enum SnapshotOpening {
+    /// The bytes are no snapshot, or none of the service that its own rows of governance name.
+    #[error("{0}")]
+    Snapshot(SnapshotFault),
+    /// The disk failed, and counted it.
+    #[error("the disk failed")]
+    DiskFault,
+}
+
+impl From<SnapshotFault> for SnapshotOpening {
+    ghost from_gives = { λ fault wider. wider ≡ from_snapshot.Snapshot fault };
+
+    fn from(fault: SnapshotFault) -> SnapshotOpening {
+        SnapshotOpening::Snapshot(fault)
     }
 }

@@ -1,6 +1,6 @@
 //! The ledger of a node's file, as the records of the file build it.
 
-ghost use Rattle.std.specs.Prelude.{◌≡◌, [], ◌∷◌, ◌++◌, None, Ok, Some, IfOk, IfSome, option_map, true, false};
+ghost use Rattle.std.specs.Prelude.{◌≡◌, [], ◌∷◌, ◌++◌, None, Ok, Some, IfErr, IfOk, IfSome, option_map, true, false};
 ghost use Rattle.gl_entry.specs.Entry.{frame_bytes, is_entry};
 ghost use Rattle.gl_ledger.specs.Behind.{IsBaseBody};
 ghost use Rattle.gl_ledger.specs.declared.breach.Broken.{Broken};
@@ -44,13 +44,26 @@ fn entry_of_frame(alloc: Global, frame: &[u8]) -> Result<Option<Entry>, AllocErr
 }
 
 impl LedgerLog {
-    /// The ledger.
+    /// A ledger of no entries behind the body of a snapshot.
+    pub(crate) fn from_body(alloc: Global, body: Body) -> Result<Self, AllocError>
+        requires read { IsBaseBody body }
+        ensures frames { IfOk result (λ log. frames_of log.ledger ≡ []) }
+        ensures snapshot { IfOk result (λ log. snapshot_in log.ledger ≡ Some (body_bytes body)) }
+    {
+        let ledger = BookLedger::from_body(alloc, body)?;
+        Ok(LedgerLog {
+            ledger: Some(ledger),
+        })
+    }
+
+    /// The ledger. Takes memory only where there is none yet.
     pub(crate) fn into_ledger(self, alloc: Global) -> Result<BookLedger, AllocError>
         ensures frames { IfOk result (λ ledger. frames_of self.ledger ≡ frames_of (Some ledger)) }
         ensures snapshot { IfOk result (λ ledger. snapshot_in self.ledger ≡ ledger.snapshot) }
         ensures entries { IfOk result (λ ledger.
             ledger_of_frames (frames_of self.ledger) ≡ Some ledger.entries) }
         ensures spelled { IfOk result (λ ledger. IsEncoded ledger.snapshot) }
+        ensures none { IfErr result (λ e. self.ledger ≡ None) }
     {
         match self.ledger {
             Some(ledger) => {

@@ -154,7 +154,7 @@ fn opened_core(
 impl<D: Disk + Drop> NodeFile<D> {
     /// The node of the file, as a restart leaves it: a follower of what the file keeps, behind its
     /// snapshot if it has one. One whose file keeps no ledger joins. Fails only where memory runs
-    /// out, and gives the disk back.
+    /// out, which it takes where there is no snapshot, and gives the disk back.
     pub fn reopen(self) -> Result<Replica<D, StoreBook>, (AllocError, D)>
         ensures stands { IfOk result (λ replica.
             StandsForFile self.state replica.core
@@ -164,6 +164,7 @@ impl<D: Disk + Drop> NodeFile<D> {
         ensures same { IfOk result (λ replica. replica.disk ≡ self.disk) }
         ensures serves { IfOk result (λ replica. replica.stopped ≡ None) }
         ensures err { IfErr result (λ e. e.1 ≡ self.disk) }
+        ensures no_snapshot { IfErr result (λ e. self.state.snapshot ≡ None) }
     {
         let NodeFile {
             alloc,

@@ -80,12 +80,15 @@ impl<N: WorldNode> Nodes<N> {
             IsRunning N.stands settings.now all (begin (start_of settings.now))) }
     {
         let mut ids = Vec::new(alloc);
+        let mut below = Vec::new(alloc);
         for node in &nodes {
             ids.push(node.core().book.me())?;
+            below.push(Vec::new(alloc))?;
         }
         Ok(Nodes {
             ids,
             nodes,
+            below,
             sent: Vec::new(alloc),
         })
     }

@@ -19,7 +19,7 @@ returns-in-Ok-clause-begins g c =
     let left = g.S.Source.left c.args.source.now in
     let whole = whole_as left c.in-Ok.given.items text c.deref.ensures.value c.in-Ok.ensures.whole in
     ok_map c.begin_with.result (λ replica began. of_text left text
-    (λ given. (b : Beginning) × (beginning d given ≡ Ok b) × BeginsAs g.D.Disk.honest g.D.Disk.bytes g.D.Disk.past g.D.Disk.faults b d replica) whole began) c.begin_with.ensures.begins
+    (λ given. (b : Beginning) × (beginning d given ≡ Ok b) × BeginsAs g.D.Disk.honest g.D.Disk.bytes g.D.Disk.past g.D.Disk.faults b replica) whole began) c.begin_with.ensures.begins
 
 pub returns-then-has_ledger-clause-spent : goal.returns-then-has_ledger-clause-spent
 returns-then-has_ledger-clause-spent g c honest =

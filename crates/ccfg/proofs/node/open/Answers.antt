@@ -10,7 +10,7 @@ use Rattle.gl_store_book.specs.NodeFile.{opened}
 use Rattle.gl_store_book.specs.declared.node_file.fault.OpeningFault.TheVariants as faults
 use Rattle.ccfg.specs.Nodes.{beginning_of}
 use Rattle.ccfg.specs.declared.node.NodeError.TheVariants as NodeError
-use Rattle.ccfg.proofs.Beginnings.{of_honest, begins_of, by_bytes, by_opened, any_bytes, has_one, ledger_or_end, not_foreign, ok_both, ok_map, of_kind, opens_as, opens_none, other_kind}
+use Rattle.ccfg.proofs.Beginnings.{of_honest, begins_of, by_bytes, by_opened, any_bytes, has_one, ledger_or_end, not_foreign, ok_both, ok_map, of_kind, opens_as, opens_none, other_kind, told_as}
 use Rattle.ccfg.proofs.NodeMoments.{beginning_moments, opened_moments, refused_only}
 use Rattle.ccfg.proofs.node.open.Goals as goal
 
@@ -32,23 +32,24 @@ returns-in-Err-clause-refused g c fault back e =
     let is : c.stop_of.result ≡ NodeError.Refused fault = search (rules, e) in
     let printed = c.stop_of.ensures.refused fault is in
     let ends = c.in-Err.ensures in
-    let error_is : c.in-Err.error ≡ stops.Fault fault = printed.0 in
+    let opening = printed.0 in
+    let error_is : c.in-Err.error ≡ stops.Fault opening = printed.2 in
     let held = g.D.Disk.bytes c.args.disk in
     let left = g.S.Source.left c.args.source.now in
     let Q : Result Durable JournalFault → Type 0 = λ opens. OfBytes left (λ given. beginning_of opens given ≡ Err fault) in
     ⊎_elim
-    (λ (h : (why : JournalFault) × (fault ≡ faults.Journal why)).
-    let other : h.0 ≢ DiskFault = λ w. printed.1 (h.1 ∙ ap faults.Journal w) in
+    (λ (h : (why : JournalFault) × (opening ≡ faults.Journal why)).
+    let other : h.0 ≢ DiskFault = λ w. printed.3 (h.1 ∙ ap faults.Journal w) in
     by_opened g.D.Disk.honest held (Err h.0) Q
     (λ honest. ends.damaged honest h.0 c.in-Err.disk (search (rules, error_is, h.1)) other)
-    (any_bytes left (λ given. ap Err (sym h.1))))
-    (λ (h : (got : KeyKind) × (fault ≡ faults.KeyKind kinds.Node got)).
+    (any_bytes left (λ given. told_as (Err h.0) given opening (faults.Journal h.0) fault refl h.1 printed.1)))
+    (λ (h : (got : KeyKind) × (opening ≡ faults.KeyKind kinds.Node got)).
     let kinds_are = ends.kinds kinds.Node h.0 c.in-Err.disk (search (rules, error_is, h.1)) in
     of_honest g.D.Disk.honest held Q
     (λ honest. let k = ends.key_kind honest kinds.Node h.0 c.in-Err.disk (search (rules, error_is, h.1)) in
-    (k.0, k.1, any_bytes left (λ given. other_kind k.0 given h.0 k.2 kinds_are.1 ∙ ap Err (sym h.1))))
-    (Ok (of_kind h.0)) (any_bytes left (λ given. other_kind (of_kind h.0) given h.0 refl kinds_are.1 ∙ ap Err (sym h.1))))
-    (ends.only fault c.in-Err.disk (search (rules, error_is)))
+    (k.0, k.1, any_bytes left (λ given. told_as (Ok k.0) given opening (faults.KeyKind kinds.Node h.0) fault (other_kind k.0 given h.0 k.2 kinds_are.1) h.1 printed.1)))
+    (Ok (of_kind h.0)) (any_bytes left (λ given. told_as (Ok (of_kind h.0)) given opening (faults.KeyKind kinds.Node h.0) fault (other_kind (of_kind h.0) given h.0 refl kinds_are.1) h.1 printed.1)))
+    (ends.only opening c.in-Err.disk (search (rules, error_is)))
 
 pub returns-in-Ok-clause-spent : goal.returns-in-Ok-clause-spent
 returns-in-Ok-clause-spent g c honest =
@@ -69,15 +70,15 @@ returns-in-Err-clause-unbegun g c honest why back is other more =
     let why_is : c.stop_of.result ≡ why = search (rules, is) in
     let back_is : c.in-Err.disk ≡ back = search (rules, is) in
     let refusal = refused_only c.stop_of.result c.stop_of.ensures.no_source (λ failed. other (sym why_is ∙ failed)) (λ memory. more (sym why_is ∙ memory)) in
-    let fault = refusal.0 in
-    let printed = c.stop_of.ensures.refused fault refusal.1 in
+    let printed = c.stop_of.ensures.refused refusal.0 refusal.1 in
+    let fault = printed.0 in
     let ends = c.in-Err.ensures in
-    let error_is : c.in-Err.error ≡ stops.Fault fault = printed.0 in
+    let error_is : c.in-Err.error ≡ stops.Fault fault = printed.2 in
     let held = g.D.Disk.bytes c.args.disk in
     ⊎_elim
     (λ (h : (reason : JournalFault) × (fault ≡ faults.Journal reason)).
     opens_none held (g.D.Disk.bytes back) h.0
-    (ends.damaged honest h.0 c.in-Err.disk (search (rules, error_is, h.1)) (λ w. printed.1 (h.1 ∙ ap faults.Journal w))))
+    (ends.damaged honest h.0 c.in-Err.disk (search (rules, error_is, h.1)) (λ w. printed.3 (h.1 ∙ ap faults.Journal w))))
     (λ (h : (got : KeyKind) × (fault ≡ faults.KeyKind kinds.Node got)).
     let k = ends.key_kind honest kinds.Node h.0 c.in-Err.disk (search (rules, error_is, h.1)) in
     opens_as held (g.D.Disk.bytes back) k.0 k.1 (ap (λ (v : g.row.D.Denot). opened (g.D.Disk.bytes v)) (sym back_is) ∙ k.3))

@@ -8,4 +8,4 @@ pub returns-in-Ok-Snapshot : goal.returns-in-Ok-Snapshot
 returns-in-Ok-Snapshot c =
     let some = c.requires in
     let offers = subst (λ (offer : Offer). Offers Shows offer some.rules some.node) c.in-Ok-Snapshot.field-0-is (c.in-Ok-Snapshot.ensures some.rules some.me some.node some.standing) in
-    (some.rules, take (offers.0 - 1) some.node.log, offers.2)
+    (some.rules, take (offers.1 - 1) some.node.log, offers.3)

@@ -27,6 +27,6 @@ pub returns-in-Ok-clause-steps : goal.returns-in-Ok-clause-steps
 returns-in-Ok-clause-steps g c = λ b x n s m offered.
     let some = subst (λ (offer : Offer). Offers g.B.Snapshots.shows offer b m) c.in-Snapshot.is offered in
     let empty : length n.log ≡ 0 = omega (arith, c.if-ledger_len-gt0.false, c.ledger_len.ensures.value b _ s.ledger) in
-    let log = take (some.0 - 1) m.log in
-    stepped_as g.B.Book.stands (record { node = begun_from b log n; sent = []; outcome = outcomes.Done }) (install_some b m n empty some.0 some.1)
-    (c.in-Ok.ensures.begun b x n s log some.2) (ap seen_outcome c.done.ensures.outcome) (ap (map seen_message) c.done.ensures.quiet)
+    let log = take (some.1 - 1) m.log in
+    stepped_as g.B.Book.stands (record { node = begun_from b log n; sent = []; outcome = outcomes.Done }) (install_some b m n empty some.1 some.2)
+    (c.in-Ok.ensures.begun b x n s log some.3) (ap seen_outcome c.done.ensures.outcome) (ap (map seen_message) c.done.ensures.quiet)

@@ -31,8 +31,9 @@ returns-in-None g c = λ b x n s.
 
 pub returns-in_ok-body-in-Some : goal.returns-in_ok-body-in-Some
 returns-in_ok-body-in-Some g c = λ b x n s. (
+  c.in_ok-body-in-Some.ensures.writable b _ s.ledger,
   c.in-Some.seqno,
   sym (snapshot_is b n c.args.self.now.commit c.signature_upto-signed.result c.evidence_upto.result (commit_of g.B.Book.stands s) (c.signature_upto-signed.ensures b _ s.ledger)
       (c.evidence_upto.ensures b _ s.ledger ∙ ap (greatest_evidence b n.log n.base) c.saturating_sub.ensures)) ∙ c.in-Some.is,
-  subst (λ (k : ℕ). g.B.Snapshots.shows c.in_ok-body-in-Some.body b (take k n.log)) c.saturating_sub-in-Some.ensures (c.in_ok-body-in-Some.ensures b _ s.ledger),
+  subst (λ (k : ℕ). g.B.Snapshots.shows c.in_ok-body-in-Some.body b (take k n.log)) c.saturating_sub-in-Some.ensures (c.in_ok-body-in-Some.ensures.shown b _ s.ledger),
 )

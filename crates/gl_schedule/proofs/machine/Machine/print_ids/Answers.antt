@@ -26,6 +26,6 @@ returns g c =
     record {
       prints = on_ok_weaker c.put_ids.result
           (λ w. prints_node m group c.args.node (λ n. ids_text (committed_entries n)) _ _ some
-          (w ∙ ap (λ x. c.args.out.now.items ++ ids_text x) c.committed.ensures
+          (w ∙ ap (λ x. c.args.out.now.items ++ ids_text x) c.committed_entries.ensures
           ∙ seen_from m _ _ c.args.node (λ h k. c.args.out.now.items ++ ids_text (committed_entries (node_now h k))) held c.node_number-node.ensures)) c.put_ids.ensures;
     }

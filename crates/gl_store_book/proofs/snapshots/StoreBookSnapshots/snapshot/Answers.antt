@@ -4,11 +4,11 @@ use Rattle.gl_ledger.specs.Snapshot.{snapshot_over}
 use Rattle.gl_store.proofs.Tails.{if_ok}
 use Rattle.gl_store_book.specs.BasedLedgers.{IsAudited, base_of, body_of}
 use Rattle.gl_store_book.specs.Stands.{NodeStore}
-use Rattle.gl_store_book.proofs.ShownSnapshots.{seqno_kept, shown_by}
+use Rattle.gl_store_book.proofs.ShownSnapshots.{seqno_kept, shown_by, writable}
 use Rattle.gl_store_book.proofs.snapshots.StoreBookSnapshots.snapshot.Goals as goal
 
-pub returns : goal.returns
-returns c =
+pub returns-clause-shown : goal.returns-clause-shown
+returns-clause-shown c =
     if_ok c.snapshot.result (λ body is b h s.
     let node = c.args.self.now in
     let to = c.args.to in
@@ -23,3 +23,6 @@ returns c =
     (given ∙ ap (λ (es : List Entry). snapshot_over (body_of l.snapshot) (take (c.within.result - (body_of l.snapshot).base) es)) c.tail-tail.ensures.entries
     ∙ ap (λ (n : NodeStore). snapshot_over (body_of n.ledger.snapshot) (take (c.within.result - (body_of n.ledger.snapshot).base) n.ledger.entries)) c.self.view_is))
     c.snapshot.ensures.body
+
+pub returns-clause-writable : goal.returns-clause-writable
+returns-clause-writable c = if_ok c.snapshot.result (λ body shown b h s. writable body b (take c.args.to h.log) (shown b h s)) (returns-clause-shown c)

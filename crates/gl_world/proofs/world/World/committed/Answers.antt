@@ -1,20 +1,17 @@
-use Rattle.std.proofs.Common.{rules, ◌≡◌, ◌-◌, refl}
-use Rattle.std.proofs.lemmas.Option.{slice_get_read}
-use Rattle.gl_world.specs.Held.{Held}
-use Rattle.gl_world.proofs.Histories.{core_here, stands_here}
+use Rattle.std.proofs.Common.{rules, ◌≡◌, ap, sym, ◌∙◌}
+use Rattle.std.proofs.lemmas.Result.{IfOk-weaker}
+use Rattle.gl_rules.specs.Safety.{committed_ledger}
+use Rattle.gl_world.specs.Held.{Held, node_now, world_now}
+use Rattle.gl_world.proofs.Histories.{named_here}
 use Rattle.gl_world.proofs.world.World.committed.Goals as goal
 
-pub index-requires : goal.index-requires
-index-requires g c =
+pub committed-requires : goal.committed-requires
+committed-requires g c =
     let h : Held = record { settings = c.self.inside.settings; events = c.self.inside.history.items } in
-    let is : c.args.self.now ≡ h = search rules in
-    let low = (core_here g.N.WorldNode.stands h c.args.self.now c.args.node is c.self.invariant c.requires.here).0 in
-    search (rules, low)
+    record { running = record { settings = h.settings; world = world_now h; running = c.self.invariant }; here = named_here g.N.WorldNode.stands h c.args.self.now c.args.node (search rules) c.self.invariant c.requires.here }
 
 pub returns : goal.returns
 returns g c =
     let h : Held = record { settings = c.self.inside.settings; events = c.self.inside.history.items } in
     let is : c.args.self.now ≡ h = search rules in
-    let low = (core_here g.N.WorldNode.stands h c.args.self.now c.args.node is c.self.invariant c.requires.here).0 in
-    let core_at = slice_get_read _ _ (c.args.node - 1) c.index.result.now refl low (search rules) in
-    c.committed.ensures _ _ _ (c.core.ensures _ _ _ (stands_here g.N.WorldNode.stands h c.args.self.now c.args.node c.index.result.now is c.self.invariant c.requires.here core_at))
+    IfOk-weaker c.committed.result _ _ (λ all f. f h.settings (world_now h) c.self.invariant ∙ ap (λ (m : Held). committed_ledger (node_now m c.args.node)) (sym is)) c.committed.ensures

@@ -259,6 +259,12 @@ def held(node, field):
     return next(int(line.split()[1]) * 1024 for line in lines if line.startswith(f"{field}:"))
 
 
+# The processor time that a process used so far, in seconds.
+def used(node):
+    tasks = Path(f"/proc/{node.process.pid}/task").iterdir()
+    return sum(int((task / "schedstat").read_text().split()[0]) for task in tasks) / 1e9
+
+
 def memory_is_bounded(folder, services):
     node = services.begin(f"{folder}/large", 1)[0]
     begun = held(node, "VmRSS")

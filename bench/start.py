@@ -12,19 +12,13 @@ import tempfile
 from pathlib import Path
 
 import program
-from node import CONNECTIONS, KEYS, ROOM, Services, drive, frame_of_put, held, is_accepted
+from node import CONNECTIONS, KEYS, ROOM, Services, drive, frame_of_put, held, is_accepted, used
 from export import entries_of
 from service import limit_time, within
 
 QUICK = sys.argv[1:] == ["--quick"]
 PUTS = 100_000 if QUICK else 1_000_000
 BOUND = 1.3
-
-
-# The processor time that a process used so far, in seconds.
-def used(node):
-    fields = Path(f"/proc/{node.process.pid}/stat").read_text().rsplit(")", 1)[1].split()
-    return (int(fields[11]) + int(fields[12])) / os.sysconf("SC_CLK_TCK")
 
 
 # A node's folder after so many puts, in which its ledger stands, and the node.

@@ -6,6 +6,7 @@ of the README of crates/gl_messages, to which that page sends its reader, the by
     client.py ADDR get MAP KEY
     client.py ADDR status V.S
     client.py ADDR receipt V.S
+    client.py ADDR snapshot > FILE
     client.py ADDR govern < REQUEST
     client.py ADDR join < ENDORSED
     client.py ADDR mark NODE
@@ -13,18 +14,22 @@ of the README of crates/gl_messages, to which that page sends its reader, the by
 ADDR is where the node listens, an address and a port. KEY and VALUE are in hexadecimal. REQUEST is
 what `ccfg sign` told, ENDORSED what `ccfg endorse` told of the node that is to join, and NODE the
 identifier of the node that may be switched off. An answer is printed as a schedule's is
-(docs/SCHEDULE.md), but that of a proposal names it by its identifier; a receipt is its JSON.
+(docs/SCHEDULE.md), but that of a proposal names it by its identifier; a receipt is its JSON. FILE gets
+the snapshot that the node offers, which `ccfg node` takes as its input, and nothing where there is none
+to be had: then the answer stands on the standard error.
 
-It ends with 0, with 1 where the node refuses, and with 2 where it doesn't answer.
+It ends with 0, with 1 where the node refuses, and with 2 where it doesn't answer, or where it turned to
+a newer snapshot again and again while one was fetched.
 """
+import hashlib
 import json
 import socket
 import sys
 import time
 from typing import NamedTuple
 
-SUBMIT, GOVERN, STATUS_OF, RECEIPT_OF = 16, 17, 18, 19  # what is asked
-ACCEPTED, REFUSED, STATUS_IS, RECEIPT_IS, MEMORY = 32, 33, 34, 35, 37  # what is answered
+SUBMIT, GOVERN, STATUS_OF, RECEIPT_OF, SNAPSHOT_PART = 16, 17, 18, 19, 20  # what is asked
+ACCEPTED, REFUSED, STATUS_IS, RECEIPT_IS, PART, MEMORY = 32, 33, 34, 35, 36, 37  # what is answered
 GET, PUT = 1, 3  # operations
 JOIN, MARK = 3, 4  # requests of governance that nobody signs
 STATUSES = ["Unknown", "Pending", "Committed", "Invalid"]
@@ -32,6 +37,9 @@ PROPOSALS = ["", "Open", "Accepted", "Rejected", "Withdrawn", "Failed", "Dropped
 NOT_LEADER = 110  # refused: the view, and the leader's identifier, empty where none is known
 NUMBERS_FIRST = {52: 0, 100: 0, 103: 0, NOT_LEADER: 1, 117: 1}  # refusals with bytes after so many numbers
 BAD_SIGNATURE, OTHER_ROOT = 118, 23  # refused: the seqno, the fault, and of another root both roots
+DIGEST_AT = 25  # where the digest of a snapshot's body stands in the frame of its evidence
+SPELLING = 120  # seconds in which a node is to have made the bytes of its snapshot
+TRIES = 5  # so often a snapshot is fetched from its start on
 
 
 def big(n, size):
@@ -117,6 +125,13 @@ class ReceiptIs(NamedTuple):
     json: bytes
 
 
+class Part(NamedTuple):
+    """Some bytes of a snapshot, and how many it has."""
+
+    total: int
+    bytes: bytes
+
+
 class Memory(NamedTuple):
     """The node has no memory for the answer."""
 
@@ -164,6 +179,8 @@ def read_answer(payload):
 
     >>> read_answer(bytes.fromhex("22070000000000000002"))
     (7, StatusIs(status='Committed'))
+    >>> read_answer(bytes.fromhex("240700000000000000090000000000000003000000616263"))
+    (7, Part(total=9, bytes=b'abc'))
     >>> read_answer(bytes.fromhex("2107000000000000006e000c000000020000000000000000000000"))
     (7, Refused(code=110, values=[2, '']))
     """
@@ -178,6 +195,8 @@ def read_answer(payload):
         answer = StatusIs(STATUSES[fields.number(1)])
     elif kind == RECEIPT_IS:
         answer = ReceiptIs(fields.field())
+    elif kind == PART:
+        answer = Part(fields.number(8), fields.field())
     elif kind == MEMORY:
         answer = Memory()
     else:
@@ -303,6 +322,87 @@ class Service:
         raise TimeoutError("no node leads")
 
 
+# ---- Snapshots
+
+
+def is_whole(data):
+    r"""Whether bytes are those of one snapshot: its body, a receipt, and the frame of its evidence, in
+    which the digest of the body stands. `ccfg node` verifies them.
+
+    >>> frame = bytes(DIGEST_AT) + hashlib.sha256(b"body").digest() + bytes(36)
+    >>> data = b"".join(map(behind_length, (b"body", b"{}", frame)))
+    >>> is_whole(data), is_whole(data[:-1]), is_whole(data + b"\0")
+    (True, False, False)
+    >>> is_whole(data.replace(b"body", b"ydob"))
+    False
+    """
+    fields = Fields(memoryview(data))
+    try:
+        body, _, frame = (fields.field() for _ in range(3))
+    except ValueError:
+        return False
+    return not fields.data and frame[DIGEST_AT : DIGEST_AT + 32] == hashlib.sha256(body).digest()
+
+
+def base_of(data):
+    """Up to which place the entries go that a snapshot stands for: its body begins with that.
+
+    >>> base_of(behind_length(little(1013, 8) + b".."))
+    1013
+    """
+    return int.from_bytes(data[4:12], "little")
+
+
+def fetch_once(client, progress):
+    """The parts of a snapshot from its start on, one after the other, or the answer that there is none.
+    They end early where one is of another snapshot than the first."""
+    data, total = bytearray(), None
+    while total is None or len(data) < total:
+        part = client.ask(SNAPSHOT_PART, little(len(data), 8))
+        if not isinstance(part, Part):
+            return part
+        if not part.bytes or total not in (None, part.total):
+            break
+        total = part.total
+        data += part.bytes
+        progress(len(data), total)
+    return data
+
+
+def fetch(client, progress=lambda got, total: None):
+    """The bytes of the snapshot that a node offers, or the answer that there is none. Where the node turns
+    to a newer one meanwhile, it begins again, and gives nothing after so many tries.
+
+    >>> frame = bytes(DIGEST_AT) + hashlib.sha256(b"").digest()
+    >>> data = b"".join(map(behind_length, (b"", b"{}", frame)))
+    >>> whole = Part(len(data), data)
+    >>> answers = [Part(9, b"older"), whole, whole, Refused(81, [2])]
+    >>> class Node:
+    ...     def ask(self, kind, fields):
+    ...         return answers.pop(0)
+    >>> fetch(Node()) == data, fetch(Node())
+    (True, Refused(code=81, values=[2]))
+    """
+    for _ in range(TRIES):
+        found = fetch_once(client, progress)
+        if not isinstance(found, bytearray) or is_whole(found):
+            return found
+    return None
+
+
+class Progress:
+    """Tells at a terminal four times a second how much of a snapshot is there, in one line."""
+
+    def __init__(self):
+        self.told_at, self.up = time.monotonic(), ""
+
+    def __call__(self, got, total):
+        now = time.monotonic()
+        if sys.stderr.isatty() and now >= self.told_at + 0.25:
+            print(f"{self.up}{got / 1e6:10.0f} of {total / 1e6:.0f} MB", file=sys.stderr)
+            self.told_at, self.up = now, "\x1b[A"
+
+
 # ---- The command
 
 
@@ -332,16 +432,35 @@ def asked(words):
     sys.exit(__doc__)
 
 
-def main():
-    address, *words = sys.argv[1:] or [""]
-    kind, fields, of_reply = asked(words)
+def heard(ask):
+    """What is answered. Where no answer comes it ends."""
     try:
-        answer = Client(address).ask(kind, fields)
+        return ask()
     except OSError as error:
         print(f"no answer: {error}", file=sys.stderr)
-        return 2
+        sys.exit(2)
+
+
+def print_answer(address, words):
+    kind, fields, of_reply = asked(words)
+    answer = heard(lambda: Client(address).ask(kind, fields))
     print(text_of(answer, of_reply))
     return 1 if isinstance(answer, (Refused, Memory)) else 0
+
+
+def write_snapshot(address):
+    found = heard(lambda: fetch(Client(address, SPELLING), Progress()))
+    if isinstance(found, bytearray):
+        sys.stdout.buffer.write(found)
+        return 0
+    told = f"{TRIES} times the node turned to a newer snapshot" if found is None else text_of(found)
+    print(told, file=sys.stderr)
+    return 2 if found is None else 1
+
+
+def main():
+    address, *words = sys.argv[1:] or [""]
+    return write_snapshot(address) if words == ["snapshot"] else print_answer(address, words)
 
 
 if __name__ == "__main__":

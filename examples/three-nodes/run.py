@@ -8,20 +8,16 @@ CCFG is the built program, FOLDER an empty folder for the files. What a line tel
 was seen, and is no command's. It ends with 0 only where all of it was seen, within four minutes, and
 ends its nodes in any case.
 """
-import hashlib
-import json
 import signal
 import sys
 import threading
 import time
-from pathlib import Path
 
 from client import RECEIPT_OF, STATUS_OF, SUBMIT, Accepted, Client, Service
-from client import id_of, put, request, text_of, transaction
+from client import put, request, text_of, transaction
 from export import entries_of
-from service import Program, limit_time, nodes_of, peers_of, within
+from service import Story, play, required, seen, within
 
-HERE = Path(__file__).resolve().parent
 SECONDS = 240
 NAMES, MEMBERS = ["node1", "node2", "node3"], ["alice", "bob"]
 TICKS = [10, 15, 20]  # so many ticks without a word of a leader, each node another number
@@ -29,112 +25,12 @@ LOAD_BEFORE, LOAD_AFTER = 150, 100  # puts that are accepted before the leader i
 PAUSE = 0.005  # seconds between two puts of the load
 
 
-def seen(text):
-    print(f"# {text}")
-
-
-def required(holds, text):
-    """Tells what was seen, and ends where it wasn't."""
-    if not holds:
-        sys.exit(f"not so: {text}")
-    seen(text)
-
-
-class Story:
-    """What the parts of the run share."""
-
-    def __init__(self, program):
-        self.program = program
-        self.identity, ids = program.found(NAMES, MEMBERS, "opening")
-        self.nodes = nodes_of(program, NAMES, ids)
-        self.service = Service({node.id: node.address for node in self.nodes})
-        self.leading = None  # the node that leads
-
-    def others(self):
-        return [node for node in self.nodes if node is not self.leading]
-
-    # ---- Nodes
-
-    def begin(self, node, given):
-        ticks = TICKS[self.nodes.index(node)]
-        node.begin(peers_of(node, self.nodes), ticks, given)
-        places = len(self.nodes)  # where it listens, and where each of the others does
-        within(20, lambda: len(node.lines()) >= places and node.listens(), f"{node.name} listens")
-        seen(self.program.shown(f"{node.name} tells: {', '.join(node.lines()[:places])}"))
-
-    def tell_standing(self, node, test, what):
-        """Waits until a node stands so, and prints the line by which it told that."""
-        role, view, commit = within(20, lambda: test(node.standing()) and node.standing(), what)
-        seen(f"{node.name} tells: {role} view {view} commit {commit}")
-        return role, view, commit
-
-    def settled(self):
-        """The node that leads, once the others follow it in its view. It is node 1, which signed the
-        opening, unless it began so late that the others elected one of themselves."""
-        stands = [node.standing() for node in self.nodes]
-        if None in stands or len({view for _, view, _ in stands}) > 1:
-            return None
-        if sorted(role for role, _, _ in stands) != ["follower", "follower", "leader"]:
-            return None
-        return next(node for node, of in zip(self.nodes, stands) if of[0] == "leader")
-
-    def settle(self):
-        """Waits for a leader, whichever node it is, and prints where each node stands then."""
-        self.leading = within(60, self.settled, "a node leads, and the others follow it")
-        for node in self.nodes:
-            role, view, commit = node.standing()
-            seen(f"{node.name} tells: {role} view {view} commit {commit}")
-
-    def leader(self, view, nodes):
-        """The node that leads, in this view or a later one."""
-        stands = [(node, node.standing()) for node in nodes]
-        leads = [(node, of) for node, of in stands if of and of[0] == "leader" and of[1] >= view]
-        return leads[0] if leads else None
-
-    # ---- A client, by client.py
-
-    def client(self, node, words, given=b"", out=None, wanted=0):
-        command = [sys.executable, "-B", str(HERE / "client.py"), node.address, *words.split()]
-        name = f"./client.py {node.address} {words}"
-        return self.program.run(name, command, given, out, wanted).decode().strip()
-
-    def accepted(self, node, words, given=b""):
-        """What a request that the leader accepts is answered, and waits until it is committed."""
-        answer = self.client(node, words, given)
-        self.committed(answer.split()[1])
-        return answer
-
-    def committed(self, id):
-        """Waits until whoever leads says that it is committed."""
-        asked = STATUS_OF, transaction(id_of(id))
-        within(20, lambda: self.service.ask(*asked).status == "Committed", f"{id} is committed")
-
-    def status_at(self, node, id):
-        client = Client(node.address)
-        answer = client.ask(STATUS_OF, transaction(id_of(id)))
-        client.close()
-        return answer.status
-
-
 def open_service(story):
     """The members acknowledge the service and open it. A put before that is refused: 51, it is opening."""
-    leader, program = story.leading, story.program
-    story.client(leader, "put public:t 61 31", wanted=1)
-
-    def signed(member, asked):
-        words = f"@disk={MEMBERS[member - 1]}.key sign --identity {story.identity} --member {member}"
-        program.ccfg(words, json.dumps(asked).encode(), "request")
-        answer = story.accepted(leader, "govern", "request")
-        return answer, hashlib.sha256((program.folder / "request").read_bytes()).hexdigest()
-
-    for member in (1, 2):
-        signed(member, {"op": "ack"})
-    actions = [{"args": {}, "name": "transition_service_to_open"}]
-    _, proposal = signed(1, {"actions": actions, "op": "propose"})
-    program.words[proposal] = "$PROPOSAL"
-    for member in (1, 2):
-        answer, _ = signed(member, {"op": "ballot", "proposal_id": proposal, "vote": True})
-    required(answer.endswith(" Accepted"), "the proposal is accepted: the service is open")
+    story.client(story.leading, "put public:t 61 31", wanted=1)
+    story.acknowledge()
+    accepted = story.decide("transition_service_to_open", {})
+    required(accepted, "the proposal is accepted: the service is open")
 
 
 def watch(story):
@@ -216,7 +112,7 @@ def lose_leader(story):
     first.process.wait(10)
     before = len(load.ids)
     seen(f"in the midst of puts, {before} of them accepted, {len(sure)} known to be committed, {first.name} is killed")
-    elected = within(30, lambda: story.leader(view_before + 1, others), "another node leads")
+    elected = within(30, lambda: leader(view_before + 1, others), "another node leads")
     story.leading, (_, view, _) = elected
     seen(f"{time.monotonic() - killed:.1f} seconds later {story.leading.name} tells: leader view {view}")
     within(60, lambda: load.has(before + LOAD_AFTER), "puts go on")
@@ -239,27 +135,26 @@ def count_load(story, killed, view, sure, ids):
     required(all(id[0] < view for id in lost), f"{killed.name} alone had accepted those that are Invalid")
 
 
+def leader(view, nodes):
+    """The node of these that leads, in this view or a later one, and where it stands."""
+    stands = [(node, node.standing()) for node in nodes]
+    leads = [(node, of) for node, of in stands if of and of[0] == "leader" and of[1] >= view]
+    return leads[0] if leads else None
+
+
 def take_back(story, killed):
     """The killed node goes on from its file, and takes what it missed."""
-    leader = story.leading
     story.begin(killed, "/dev/null")
-    story.accepted(leader, "put public:t 62 33")
-    wanted = leader.standing()[2]
-
-    def has_all(of):
-        return of and of[0] == "follower" and of[2] >= wanted
-
-    story.tell_standing(killed, has_all, f"{killed.name} knows all that {leader.name} had committed")
+    story.accepted(story.leading, "put public:t 62 33")
+    story.has_all(killed)
 
 
 def committed_ledger(story, node, standing):
     """The entries of a node's file up to the commit that it told last. All of them are valid."""
-    program, commit = story.program, standing[2]
-    command = [sys.executable, "-B", str(HERE / "export.py"), f"{node.name}.key"]
-    program.run(f"./export.py {node.name}.key", command, b"", f"{node.name}.ledger")
-    told = program.ccfg(f"audit --identity {story.identity}", f"{node.name}.ledger")
-    entries = entries_of((program.folder / f"{node.name}.key").read_bytes())
-    holds = told.startswith(b"valid ") and commit <= len(entries)
+    story.export(node)
+    valid, commit = story.is_valid(f"{node.name}.ledger"), standing[2]
+    entries = entries_of((story.program.folder / f"{node.name}.key").read_bytes())
+    holds = valid and commit <= len(entries)
     required(holds, f"it is valid, and {commit} of its {len(entries)} entries are committed")
     return entries[:commit]
 
@@ -274,31 +169,17 @@ def compare(story):
     required(fronts, "each committed ledger is a front of the longest one")
 
 
-def play(story):
+def run(story):
     for node in story.nodes:
         story.begin(node, "opening.ledger")
-    story.settle()
+    story.settle(story.nodes)
     open_service(story)
     ask(story)
     killed, view, sure, ids = lose_leader(story)
     count_load(story, killed, view, sure, ids)
     take_back(story, killed)
     compare(story)
-    seen("all as wanted")
-
-
-def main():
-    if len(sys.argv) != 3:
-        sys.exit(__doc__)
-    sys.stdout.reconfigure(line_buffering=True)
-    limit_time(SECONDS)
-    story = Story(Program(sys.argv[1], Path(sys.argv[2]).resolve()))
-    try:
-        play(story)
-    finally:
-        for node in story.nodes:
-            node.kill()
 
 
 if __name__ == "__main__":
-    main()
+    play(SECONDS, lambda program: Story(program, NAMES, MEMBERS, "opening", TICKS), run, __doc__)

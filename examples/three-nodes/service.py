@@ -1,5 +1,6 @@
-"""A service on this machine: its keys and its opening ledger, which the built program makes, and its
-nodes, each a process of that program. run.py and bench/node.py have their nodes from here.
+"""A service on this machine: its keys and its opening ledger, which the built program makes, its nodes,
+each a process of that program, and what a run of it tells. run.py, examples/snapshot/run.py and
+bench/node.py have their nodes from here.
 """
 import hashlib
 import json
@@ -10,6 +11,10 @@ import subprocess
 import sys
 import time
 from pathlib import Path
+
+from client import STATUS_OF, Client, Service, id_of, transaction
+
+HERE = Path(__file__).resolve().parent
 
 
 def digest(data):
@@ -174,17 +179,145 @@ class Node:
             self.process.wait(10)
 
 
-def nodes_of(program, names, ids):
-    """The nodes of a service, each at a free address."""
+def nodes_of(program, names, ids, first=1):
+    """Nodes of a service, each at a free address; the first one has this number."""
     addresses = free_addresses(len(names))
     nodes = [Node(program, *of) for of in zip(names, ids, addresses)]
-    for number, node in enumerate(nodes, 1):
+    for number, node in enumerate(nodes, first):
         program.words.update({node.id: f"$ID{number}", node.address: f"$ADDR{number}"})
     return nodes
 
 
 def peers_of(node, nodes):
     return [peer for peer in nodes if peer is not node]
+
+
+# ---- What a run tells
+
+
+def seen(text):
+    print(f"# {text}")
+
+
+def required(holds, text):
+    """Tells what was seen, and ends where it wasn't."""
+    if not holds:
+        sys.exit(f"not so: {text}")
+    seen(text)
+
+
+class Story:
+    """A service that is founded, and what the parts of a run do with its nodes and its members. Of each
+    node it has after how many ticks without a word of a leader that stands for election."""
+
+    def __init__(self, program, names, members, state, ticks):
+        self.program, self.members, self.ticks = program, members, ticks
+        self.identity, ids = program.found(names, members, state)
+        self.nodes = nodes_of(program, names, ids)
+        self.service = Service({node.id: node.address for node in self.nodes})
+        self.leading = None  # the node that leads
+
+    def others(self):
+        return [node for node in self.nodes if node is not self.leading]
+
+    # ---- Nodes
+
+    def begin(self, node, given):
+        ticks = self.ticks[self.nodes.index(node)]
+        node.begin(peers_of(node, self.nodes), ticks, given)
+        places = len(self.nodes)  # where it listens, and where each of the others does
+        within(20, lambda: len(node.lines()) >= places and node.listens(), f"{node.name} listens")
+        seen(self.program.shown(f"{node.name} tells: {', '.join(node.lines()[:places])}"))
+
+    def tell_standing(self, node, test, what):
+        """Waits until a node stands so, and prints the line by which it told that."""
+        role, view, commit = within(20, lambda: test(node.standing()) and node.standing(), what)
+        seen(f"{node.name} tells: {role} view {view} commit {commit}")
+        return role, view, commit
+
+    def settled(self, nodes):
+        """The node that leads, once the others follow it in its view. It is node 1, which signed the
+        opening, unless it began so late that the others elected one of themselves."""
+        stands = [node.standing() for node in nodes]
+        if None in stands or len({view for _, view, _ in stands}) > 1:
+            return None
+        if sorted(role for role, _, _ in stands) != [*["follower"] * (len(stands) - 1), "leader"]:
+            return None
+        return next(node for node, of in zip(nodes, stands) if of[0] == "leader")
+
+    def settle(self, nodes):
+        """Waits for a leader among nodes, whichever it is, and prints where each of them stands then."""
+        self.leading = within(60, lambda: self.settled(nodes), "a node leads, and the others follow it")
+        for node in nodes:
+            role, view, commit = node.standing()
+            seen(f"{node.name} tells: {role} view {view} commit {commit}")
+
+    def has_all(self, node):
+        """Waits until a node follows, and has what the leader knows to be committed now."""
+        wanted = self.leading.standing()[2]
+
+        def has_all(of):
+            return of and of[0] == "follower" and of[2] >= wanted
+
+        self.tell_standing(node, has_all, f"{node.name} knows all that {self.leading.name} had committed")
+
+    # ---- A client, by client.py
+
+    def client(self, node, words, given=b"", out=None, wanted=0):
+        """What client.py tells, where no file takes it."""
+        command = [sys.executable, "-B", str(HERE / "client.py"), node.address, *words.split()]
+        name = f"./client.py {node.address} {words}"
+        told = self.program.run(name, command, given, out, wanted)
+        return None if out else told.decode().strip()
+
+    def accepted(self, node, words, given=b""):
+        """What a request that the leader accepts is answered, and waits until it is committed."""
+        answer = self.client(node, words, given)
+        self.committed(answer.split()[1])
+        return answer
+
+    def committed(self, id):
+        """Waits until whoever leads says that it is committed."""
+        asked = STATUS_OF, transaction(id_of(id))
+        within(20, lambda: self.service.ask(*asked).status == "Committed", f"{id} is committed")
+
+    def status_at(self, node, id):
+        client = Client(node.address)
+        answer = client.ask(STATUS_OF, transaction(id_of(id)))
+        client.close()
+        return answer.status
+
+    # ---- Ledgers, by export.py
+
+    def export(self, node, wanted=0):
+        """Writes the ledger off a node's file."""
+        command = [sys.executable, "-B", str(HERE / "export.py"), f"{node.name}.key"]
+        self.program.run(f"./export.py {node.name}.key", command, b"", f"{node.name}.ledger", wanted)
+
+    def is_valid(self, ledger):
+        return self.program.ccfg(f"audit --identity {self.identity}", ledger).startswith(b"valid ")
+
+    # ---- Members
+
+    def signed(self, member, asked):
+        """What the leader answers to a request that a member signs, and the digest of that."""
+        words = f"@disk={self.members[member - 1]}.key sign --identity {self.identity} --member {member}"
+        self.program.ccfg(words, json.dumps(asked).encode(), "request")
+        answer = self.accepted(self.leading, "govern", "request")
+        return answer, digest((self.program.folder / "request").read_bytes())
+
+    def acknowledge(self):
+        for member, _ in enumerate(self.members, 1):
+            self.signed(member, {"op": "ack"})
+
+    def decide(self, name, args):
+        """The first member proposes an action, and all say yes: whether it is accepted."""
+        actions = [{"args": args, "name": name}]
+        _, proposal = self.signed(1, {"actions": actions, "op": "propose"})
+        self.program.words[proposal] = "$PROPOSAL"
+        for member, _ in enumerate(self.members, 1):
+            answer, _ = self.signed(member, {"op": "ballot", "proposal_id": proposal, "vote": True})
+        return answer.endswith(" Accepted")
 
 
 def limit_time(seconds):
@@ -197,3 +330,19 @@ def limit_time(seconds):
     for number in (signal.SIGALRM, signal.SIGTERM, signal.SIGHUP):
         signal.signal(number, past)
     signal.alarm(seconds)
+
+
+def play(seconds, story_of, parts, usage):
+    """Runs the parts of a story of the built program in a folder, which the words name, and ends its nodes
+    in any case."""
+    if len(sys.argv) != 3:
+        sys.exit(usage)
+    sys.stdout.reconfigure(line_buffering=True)
+    limit_time(seconds)
+    story = story_of(Program(sys.argv[1], Path(sys.argv[2]).resolve()))
+    try:
+        parts(story)
+        seen("all as wanted")
+    finally:
+        for node in story.nodes:
+            node.kill()

@@ -3,3 +3,4 @@ pub mod Receipts
 pub mod Reply
 pub mod Reasons
 pub mod Encoding
+pub mod Snapshots

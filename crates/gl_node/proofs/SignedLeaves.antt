@@ -1,5 +1,5 @@
 -- The leaves that rules reserve and use.
-use Rattle.std.proofs.Common.{◌≡◌, ◌≤◌, ◌<◌, ◌⊎◌, inl, inr, ℕ, zero, suc, List, [], ◌∷◌, ◌++◌, length, Bool, true, false, ◌==◌, nat_lt, nat_le, if◌then◌else◌, Option, Some, None, Result, Ok, Err, All, AllPairs, refl, sym, subst, arith}
+use Rattle.std.proofs.Common.{◌≡◌, ◌≤◌, ◌<◌, ◌⊎◌, inl, inr, ℕ, zero, suc, List, [], ◌∷◌, ◌++◌, length, Bool, true, false, ◌==◌, ◌-◌, take, nat_lt, nat_le, if◌then◌else◌, Option, Some, None, Result, Ok, Err, All, AllPairs, refl, sym, subst, arith}
 use Rattle.std.proofs.lemmas.Bool.Decides.{nat_tests}
 use Rattle.std.proofs.lemmas.List.Elements.{All-cons, All-nil, All-weaker}
 use Rattle.gl_entry.specs.declared.entry.Entry.{Entry}
@@ -8,10 +8,10 @@ use Rattle.gl_rules.specs.Book.{Book}
 use Rattle.gl_rules.specs.Node.{Node, Role, Follower, Candidate, Leader}
 use Rattle.gl_rules.specs.Outcome.{Step, idle}
 use Rattle.gl_rules.specs.Outcome as outcome
-use Rattle.gl_rules.specs.Log.{entry_at, is_signature_in}
+use Rattle.gl_rules.specs.Log.{entry_at, is_signature_in, view_at}
 use Rattle.gl_rules.specs.Configuration.{configurations_above}
-use Rattle.gl_rules.specs.Replication.{restart}
-use Rattle.gl_rules.specs.Steps.{as_leader, if_leader}
+use Rattle.gl_rules.specs.Replication.{install, install_snapshot, restart, snapshot_of, with_snapshot}
+use Rattle.gl_rules.specs.Steps.{as_leader, enter_view, if_leader}
 use Rattle.gl_rules.specs.Requests.{pending_limit, append_result, execute_request, submit, if_removal_committed, unless_mark_refused, if_markable, govern_as_leader, govern, append_signature, sign_as_leader, sign, append_evidence, evidence}
 use Rattle.gl_rules.specs.World.{on_message}
 use Rattle.gl_rules.proofs.Ids.{by_test}
@@ -24,7 +24,7 @@ use Rattle.gl_replication.specs.Events.{answer, delivery, rule_of}
 use Rattle.gl_replication.specs.declared.event.Event.{Event}
 use Rattle.gl_replication.specs.declared.event.Event.TheVariants as events
 use Rattle.gl_node.specs.Changes.{IsAsKept, IsTurned}
-use Rattle.gl_node.specs.Leaves.{Happening, Served, Lost, Kept, Stopped, leaf_if_signed, leaf_in, leaf_of, leaves_through, node_after}
+use Rattle.gl_node.specs.Leaves.{Happening, Served, Lost, Kept, Installed, InstalledKept, Stopped, leaf_if_signed, leaf_in, leaf_of, leaves_through, node_after}
 use Rattle.gl_node.proofs.TakenEntries.{IsLed, entries_led}
 use Rattle.gl_node.proofs.ElectionSteps.{timeout_turned, request_vote_turned, vote_reply_turned, append_answer_turned, propose_vote_turned, reserve_turned, step_down_kept, replicate_kept, advance_kept}
 
@@ -115,6 +115,18 @@ module _ {Q G R A F : Type 0} (b : Book Entry Q G R A F) (x : NodeId) where
       go (Err why) = as_before n
       go (Ok e) = record { reserved = omega arith; used = refl }
 
+  begun_quiet : (m n : Node Entry) (seqno : ℕ) → IsUnsigned n (with_snapshot b m seqno n)
+  unfolding enter_view
+  begun_quiet m n seqno = by_test (λ (v : Node Entry). IsUnsigned n (record v { log = take seqno m.log; base = seqno; commit = seqno })) (nat_lt n.view (view_at b m.log seqno)) _ _ (λ d. record { reserved = omega arith; used = refl }) (λ d. record { reserved = omega arith; used = refl })
+
+  install_quiet : (m n : Node Entry) → Quiet n (install b m n)
+  unfolding install
+  install_quiet m n = by_test (Quiet n) (length n.log == 0) (install_snapshot b m (snapshot_of b m) n) (idle n) (λ d. go (snapshot_of b m)) (λ d. as_before n)
+    where
+      go : (s : Option ℕ) → Quiet n (install_snapshot b m s n)
+      go None = as_before n
+      go (Some evidence) = begun_quiet m n (evidence - 1)
+
   message_quiet : (m : Message) (n : Node Entry) → Quiet n (delivery m b x n)
   message_quiet m n = by_test (Quiet n) (same m.to x) (answer m b x n) (idle n) (λ d. go m.body) (λ d. as_before n)
     where
@@ -185,6 +197,8 @@ module _ {Q G R A F : Type 0} (b : Book Entry Q G R A F) (x : NodeId) where
     happening_signs n (Served e) within = event_signs n e within
     happening_signs n (Lost e) within = lost n (rule_of e b x n).node (leaf_of b x n e) (event_signs n e within) within
     happening_signs n (Kept e) within = kept n (rule_of e b x n).node (leaf_of b x n e) (event_signs n e within)
+    happening_signs n (Installed from) within = unsigned n _ (install_quiet from n) within
+    happening_signs n (InstalledKept from) within = kept n _ [] (unsigned n _ (install_quiet from n) within)
     happening_signs n Stopped within = lost n n [] (unsigned n n (as_before n) within) within
 
     pub leaves_rise : (n : Node Entry) (hs : List (Happening S Q G R A F)) → n.used ≤ n.reserved → Above n.used (leaves_through b x n hs)

@@ -5,7 +5,7 @@ use Rattle.gl_rules.specs.Identity.{NodeId}
 use Rattle.gl_rules.specs.Book.{Book}
 use Rattle.gl_rules.specs.Node.{Node}
 use Rattle.gl_rules.specs.Outcome.{Outcome, Done, Idle, BecameCandidate, BecameLeader, Accepted, Signed, Committed, Refused}
-use Rattle.gl_rules.specs.Replication.{restart}
+use Rattle.gl_rules.specs.Replication.{install, restart}
 use Rattle.gl_rules.specs.Requests.{sign}
 use Rattle.gl_replication.specs.Events.{rule_of}
 use Rattle.gl_replication.specs.declared.event.Event.{Event}
@@ -20,6 +20,11 @@ pub data Happening (S Q G R A F : Type 0) : Type 0 where
   Lost : (event : Event S Q G R A F) → Happening S Q G R A F
   -- the same, and the file keeps the event
   Kept : (event : Event S Q G R A F) → Happening S Q G R A F
+  -- it begins from the snapshot of another node, and that is kept
+  Installed : (from : Node Entry) → Happening S Q G R A F
+  -- a fault of the disk or a stop after that, and the file keeps it and is opened again. Where the
+  -- file doesn't keep it, it is a stop
+  InstalledKept : (from : Node Entry) → Happening S Q G R A F
   -- a stop between events, and the file is opened again
   Stopped : Happening S Q G R A F
 
@@ -53,6 +58,8 @@ module _ {S Q G R A F : Type 0} (b : Book Entry Q G R A F) (x : NodeId) where
   leaf_in n (Served event) = leaf_of n event
   leaf_in n (Lost event) = leaf_of n event
   leaf_in n (Kept event) = leaf_of n event
+  leaf_in n (Installed from) = []
+  leaf_in n (InstalledKept from) = []
   leaf_in n Stopped = []
 
   -- The node then: a file that is opened again gives the node that the rule of restarts leaves.
@@ -60,6 +67,9 @@ module _ {S Q G R A F : Type 0} (b : Book Entry Q G R A F) (x : NodeId) where
   node_after n (Served event) = (rule_of event b x n).node
   node_after n (Lost event) = (restart {A = A} {F = F} b n).node
   node_after n (Kept event) = (restart {A = A} {F = F} b (rule_of event b x n).node).node
+  node_after n (Installed from) = (install {A = A} {F = F} b from n).node
+  node_after n (InstalledKept from) =
+      (restart {A = A} {F = F} b (install {A = A} {F = F} b from n).node).node
   node_after n Stopped = (restart {A = A} {F = F} b n).node
 
   -- The leaves of all signatures, in their order.

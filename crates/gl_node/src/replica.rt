@@ -22,6 +22,7 @@ use crate::kept_book::KeptBook;
 use gl_journal::Journal;
 use gl_outside::Disk;
 use gl_replication::{Core, Done, Event, Offer, Snapshots};
+use std::alloc::AllocError;
 use std::marker::Model;
 
 /// A node that serves from a file. It is seen as the node, the disk with the file on it, and
@@ -230,5 +231,13 @@ impl<D: Disk, B: KeptBook + Snapshots> Replica<D, B> {
         let came = install_at(&mut self.core, &mut self.journal, offer);
         self.stopped = stopped_by(&came, self.journal.gated.disk.faults());
         came
+    }
+
+    /// Has its store keep the bytes of the snapshot that it offers at hand. What is seen of the
+    /// node, its disk and its file stays.
+    pub fn keep_at_hand(&mut self) -> Result<(), AllocError>
+        ensures same { self.new ≡ self.old }
+    {
+        self.core.keep_at_hand()
     }
 }

@@ -1,11 +1,11 @@
 //! Snapshots: what a node offers of its ledger, and how another one begins from that.
 
-ghost use Rattle.std.specs.Prelude.{◌≡◌, ◌≤◌, ◌+◌, List, [], true, length, take, IfOk, IfErr, OnOk, OnErr};
+ghost use Rattle.std.specs.Prelude.{◌≡◌, ◌≤◌, ◌+◌, ◌-◌, List, [], true, length, min, take, IfOk, IfErr, OnOk, OnErr};
 ghost use Rattle.gl_entry.specs.declared.entry.Entry.{Entry as Item};
 ghost use Rattle.gl_rules.specs.Book.{Book as Rules};
-ghost use Rattle.gl_rules.specs.Log.{entry_at};
+ghost use Rattle.gl_rules.specs.Log.{entry_at, last_signature};
 ghost use Rattle.gl_rules.specs.Node.{Node};
-ghost use Rattle.gl_rules.specs.Replication.{install, is_evidence_at};
+ghost use Rattle.gl_rules.specs.Replication.{greatest_evidence, install, is_evidence_at, snapshot_of};
 ghost use Rattle.gl_snapshot_body.specs.declared.body.Body.{Body as Summary};
 ghost use Rattle.gl_replication.specs.Holding.{from_snapshot};
 ghost use Rattle.gl_replication.specs.Offers.{IsOffer, IsShown, IsWritable, Offers, begun_from, kept_after_offer, kept_body};
@@ -47,6 +47,11 @@ pub trait Snapshots: Book {
         ensures body { OnOk result (Self.base_snapshot self.new ≡ kept_body body) }
         ensures snapshot { OnErr result
             (Self.base_snapshot self.new ≡ Self.base_snapshot self.old) };
+
+    /// Keeps the bytes of the snapshot with this evidence at hand, of a ledger that is committed up
+    /// to a seqno, for whoever fetches them part by part. What the book is seen as stays.
+    fn keep_at_hand(&mut self, commit: u64, evidence: u64) -> Result<(), AllocError>
+        ensures same { self.new ≡ self.old };
 }
 
 /// What a node offers one that begins from its ledger.
@@ -59,13 +64,42 @@ pub enum Offer {
 }
 
 impl<B: Snapshots> Core<B> {
+    /// The evidence whose snapshot it offers: the last one above its base that has a committed
+    /// signature above.
+    pub fn snapshot_evidence(&self) -> Option<u64>
+        ensures value { Reports B.stands self.now (λ b x n. result ≡ snapshot_of b n) }
+        ensures evidence { At B.stands self.now.book (λ b h. result ≡ greatest_evidence b h.log
+            h.base (last_signature b (take self.now.commit h.log) - 1)) }
+    {
+        let signed = self.book.signature_upto(self.commit);
+        self.book.evidence_upto(signed.saturating_sub(1))
+    }
+
+    /// Commit, or the seqno of the last entry where that is below it, as in no run.
+    pub fn committed_len(&self) -> u64
+        ensures { At B.stands self.now.book (λ b h.
+            result ≡ min self.now.commit (length h.log)) }
+    {
+        self.commit.min(self.book.ledger_len())
+    }
+
+    /// Has its book keep the bytes of that snapshot at hand. What is seen of the node stays.
+    pub fn keep_at_hand(&mut self) -> Result<(), AllocError>
+        ensures same { self.new ≡ self.old }
+    {
+        let commit = self.committed_len();
+        match self.snapshot_evidence() {
+            None => Ok(()),
+            Some(evidence) => self.book.keep_at_hand(commit, evidence),
+        }
+    }
+
     /// What it offers a node that begins.
     pub fn snapshot(&self) -> Result<Offer, AllocError>
         ensures { IfOk result (λ offer.
             Reports B.stands self.now (λ b x n. Offers B.shows offer b n)) }
     {
-        let signed = self.book.signature_upto(self.commit);
-        match self.book.evidence_upto(signed.saturating_sub(1)) {
+        match self.snapshot_evidence() {
             None => Ok(Offer::NoLaterSignature(self.commit)),
             Some(seqno) => {
                 let body = self.book.snapshot(seqno.saturating_sub(1))?;

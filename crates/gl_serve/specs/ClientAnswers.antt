@@ -19,6 +19,7 @@ use Rattle.gl_answers.specs.Reasons.{numbers, reason_of, seen_refusal}
 use Rattle.gl_answers.specs.Encoding.{values_bytes}
 use Rattle.gl_answers.specs.declared.value.Reason.{Reason}
 use Rattle.gl_answers.specs.Reply.{given_bytes}
+use Rattle.gl_answers.specs.declared.part.Part.{Part}
 use Rattle.gl_node.specs.declared.fault.NodeFault.TheVariants.{Refused, DiskFault, Stopped}
 use Rattle.gl_serve.specs.declared.node.Outcome.{Outcome}
 use Rattle.gl_serve.specs.declared.node.Outcome.TheVariants as outcomes
@@ -55,6 +56,12 @@ make_reason (NoLaterSignature commit) = numbers 81 (commit ∷ [])
 abbrev pub receipt_answer_body : Result Receipt MakeFault → AnswerBody
 receipt_answer_body (Ok receipt) = json_answer_body (compact_text (receipt_tree receipt))
 receipt_answer_body (Err fault) = reason_answer_body (make_reason fault)
+
+-- A part of a snapshot, and how many bytes that has. Where there is none, the refusal tells the
+-- node's commit.
+abbrev pub part_answer_body : ℕ → Option Part → AnswerBody
+part_answer_body commit None = reason_answer_body (numbers 81 (commit ∷ []))
+part_answer_body commit (Some part) = content.Part part.total part.bytes
 
 -- ---- what comes of it
 

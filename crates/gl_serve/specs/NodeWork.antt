@@ -1,9 +1,9 @@
 -- What a node does with payloads, and with the events of its own.
-use Rattle.std.specs.Prelude.{◌≡◌, ℕ, Bool, true, false, not, List, [], ◌∷◌, Option, None, Some, Result, length}
+use Rattle.std.specs.Prelude.{◌≡◌, ◌⊎◌, ℕ, Bool, true, false, not, List, [], ◌∷◌, Option, None, Some, Result, length}
 use Rattle.gl_entry.specs.declared.entry.Entry.{Entry}
 use Rattle.gl_rules.specs.Log.{entry_at, is_signature_in}
 use Rattle.gl_rules.specs.Node.{Node}
-use Rattle.gl_rules.specs.Replication.{is_evidence_due}
+use Rattle.gl_rules.specs.Replication.{is_evidence_due, snapshot_of}
 use Rattle.gl_rules.specs.Safety.{reported_status}
 use Rattle.gl_ledger.specs.LedgerBook.{ServiceBook}
 use Rattle.gl_messages.specs.declared.answer.AnswerBody.{AnswerBody}
@@ -15,14 +15,15 @@ use Rattle.gl_replication.specs.declared.event.Event.TheVariants as events
 use Rattle.gl_replication.specs.Holding.{Holding}
 use Rattle.gl_replication.specs.Replies.{is_leading}
 use Rattle.gl_replication.specs.Stands.{Reports}
-use Rattle.gl_answers.specs.Reasons.{numbers}
 use Rattle.gl_answers.specs.Receipts.{receipts_of}
+use Rattle.gl_answers.specs.Snapshots.{Gives}
+use Rattle.gl_answers.specs.declared.part.Part.{Part}
 use Rattle.gl_serve.specs.Rules.{Rules}
 use Rattle.gl_serve.specs.declared.node.OwnEvent.{OwnEvent}
 use Rattle.gl_serve.specs.declared.node.OwnEvent.TheVariants as own
 use Rattle.gl_serve.specs.declared.node.Outcome.{Outcome}
 use Rattle.gl_serve.specs.declared.node.Outcome.TheVariants as outcomes
-use Rattle.gl_serve.specs.ClientAnswers.{Answers, IsAnswered, Says, answers, message_outcome, nothing, own_outcome, reason_answer_body, receipt_answer_body}
+use Rattle.gl_serve.specs.ClientAnswers.{Answers, IsAnswered, Says, answers, message_outcome, nothing, own_outcome, part_answer_body, receipt_answer_body}
 use Rattle.gl_serve.specs.Events.{Happens}
 use Rattle.gl_serve.specs.Payloads.{payload_in}
 use Rattle.gl_serve.specs.Types.{NodeDone, NodeEvent, NodeFaults, NodeSeen}
@@ -30,6 +31,14 @@ use Rattle.gl_serve.specs.declared.payload.Ask.{Ask}
 use Rattle.gl_serve.specs.declared.payload.Ask.TheVariants as asks
 use Rattle.gl_serve.specs.declared.payload.Payload.{Payload}
 use Rattle.gl_serve.specs.declared.payload.Payload.TheVariants as payloads
+
+-- What is reported is a part of the snapshot that the node offers, or that it offers none; or that
+-- memory ran out.
+abbrev pub SaysPart : ServiceBook → Node Entry → ℕ → AnswerBody → Type 0
+SaysPart b n offset reported =
+    ((part : Option Part) × Gives n offset (snapshot_of b n) part
+    × (reported ≡ part_answer_body n.commit part))
+    ⊎ (reported ≡ content.Memory)
 
 module _ {D S : Type 0} (stands : S → ServiceBook → Holding Entry → Type 0) (goes_on : LogRules)
     (honest : Bool) (bytes : D → List ℕ) (past : D → List Step) (faults : D → ℕ) where
@@ -61,8 +70,8 @@ module _ {D S : Type 0} (stands : S → ServiceBook → Holding Entry → Type 0
       Report old.stopped old number Due outcome × (new ≡ old)
 
   -- A request is its event. The status of a transaction is the one that the rules report, which
-  -- takes no memory. Its receipt is the one that the ledger gives up to the node's commit. No
-  -- snapshots are handed out yet.
+  -- takes no memory. Its receipt is the one that the ledger gives up to the node's commit. A part
+  -- of a snapshot is one of that which the node offers.
   abbrev pub Asks : NodeSeen D S → ℕ → Ask → Outcome → NodeSeen D S → Type 0
   Asks old number (asks.Submit request) outcome new =
       Comes (events.Submit request) old new (λ result. Answers number result outcome)
@@ -76,8 +85,7 @@ module _ {D S : Type 0} (stands : S → ServiceBook → Holding Entry → Type 0
       (λ b n. Says
       (receipt_answer_body (receipt_of (receipts_of n.base n.log n.commit) id))) outcome new
   Asks old number (asks.SnapshotPart offset) outcome new =
-      Questions old number (λ b n. Says (reason_answer_body (numbers 81 (n.commit ∷ []))))
-      outcome new
+      Questions old number (λ b n reported. SaysPart b n offset reported) outcome new
 
   -- A peer's message is its event. Whatever a client asks is answered once, under its number.
   abbrev pub Handles : NodeSeen D S → Payload → Outcome → NodeSeen D S → Type 0

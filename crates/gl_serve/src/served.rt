@@ -5,7 +5,6 @@ ghost use Rattle.gl_messages.specs.Answer.{answer_body_fits};
 ghost use Rattle.gl_messages.specs.declared.answer.AnswerBody.TheVariants.{StatusIs};
 ghost use Rattle.gl_receipt.specs.Made.{receipt_of};
 ghost use Rattle.gl_answers.specs.Limits.{FitsGiven};
-ghost use Rattle.gl_answers.specs.Reasons.{numbers};
 ghost use Rattle.gl_answers.specs.Receipts.{receipts_of};
 ghost use Rattle.gl_replication.specs.Events.{AreFit, IsAccepted, has_few_entries, is_request};
 ghost use Rattle.gl_replication.specs.declared.event.Event.TheVariants as events;
@@ -16,7 +15,7 @@ ghost use Rattle.gl_rules.specs.Safety.{reported_status};
 ghost use Rattle.gl_serve.specs.Rules.{Fits};
 ghost use Rattle.gl_serve.specs.ClientAnswers.{Answers, IsAnswered, Says, message_outcome, nothing, reason_answer_body, receipt_answer_body};
 ghost use Rattle.gl_serve.specs.Events.{Happens};
-ghost use Rattle.gl_serve.specs.NodeWork.{Asks, Comes, Handles, Happen, HappenDue, HappenUnsigned, Owns, Questions, Report};
+ghost use Rattle.gl_serve.specs.NodeWork.{Asks, Comes, Handles, Happen, HappenDue, HappenUnsigned, Owns, Questions, Report, SaysPart};
 
 use crate::answers::{
     accept, answer, json_answer_body, make_reason, reason_answer_body, refusal_answer_body,
@@ -25,7 +24,7 @@ use crate::heard::is_heard;
 use crate::payload::{Ask, Payload};
 use crate::peer_message::PeerMessage;
 use crate::{Outcome, OwnEvent};
-use gl_answers::{ClientBook, Reason};
+use gl_answers::{ClientBook, Reason, part_of_snapshot};
 use gl_base::{OrNoMemory, Sequence, TxId};
 use gl_messages::AnswerBody;
 use gl_node::{KeptBook, NodeFault, Replica};
@@ -129,14 +128,20 @@ fn receipt_answer_body<B: KeptBook + ClientBook>(core: &Core<B>, id: TxId) -> An
     }
 }
 
-/// That no snapshot is handed out, or that memory ran out.
-fn part_answer_body<B: KeptBook + ClientBook>(core: &Core<B>) -> AnswerBody
-    ensures due { Reports B.stands core.now (λ b x n.
-        Says (reason_answer_body (numbers 81 (n.commit ∷ []))) result) }
+/// A part of the snapshot that the node offers as it is reported, or that memory ran out.
+fn part_answer_body<B: KeptBook + ClientBook>(core: &Core<B>, offset: u64) -> AnswerBody
+    ensures due { Reports B.stands core.now (λ b x n. SaysPart b n offset result) }
     ensures fits { IsTrue (answer_body_fits result) }
 {
-    match Reason::numbers(core.alloc, 81, &[core.commit]) {
-        Ok(reason) => reason_answer_body(core.alloc, &reason),
+    match part_of_snapshot(core, offset) {
+        Ok(Some(part)) => AnswerBody::Part {
+            total: part.total,
+            bytes: part.bytes,
+        },
+        Ok(None) => match Reason::numbers(core.alloc, 81, &[core.commit]) {
+            Ok(reason) => reason_answer_body(core.alloc, &reason),
+            Err(_) => AnswerBody::Memory,
+        },
         Err(_) => AnswerBody::Memory,
     }
 }
@@ -157,7 +162,7 @@ fn on_ask<D: Disk, B: KeptBook + ClientBook>(
         Ask::Govern(request) => on_request(replica, number, Event::Govern(request)),
         Ask::StatusOf(id) => status_of(replica, number, id),
         Ask::ReceiptOf(id) => receipt(replica, number, id),
-        Ask::SnapshotPart { .. } => part(replica, number),
+        Ask::SnapshotPart { offset } => part(replica, number, offset),
     }
 }
 
@@ -198,18 +203,27 @@ fn receipt<D: Disk, B: KeptBook + ClientBook>(
     answer(core.alloc, number, receipt_answer_body(core, id))
 }
 
-fn part<D: Disk, B: KeptBook + ClientBook>(replica: &Replica<D, B>, number: u64) -> Outcome
+/// The bytes of the snapshot are kept at hand, so that they aren't made anew for each part.
+fn part<D: Disk, B: KeptBook + ClientBook>(
+    replica: &mut Replica<D, B>,
+    number: u64,
+    offset: u64,
+) -> Outcome
     ensures reported { Report B.stands B.goes_on D.honest D.bytes D.past D.faults
-        replica.now.stopped replica.now number
-        (λ b n. Says (reason_answer_body (numbers 81 (n.commit ∷ [])))) result }
+        replica.old.stopped replica.old number
+        (λ b n reported. SaysPart b n offset reported) result }
+    ensures same { replica.new ≡ replica.old }
     ensures fits { Fits result }
     ensures answered { IsAnswered number result }
 {
     if replica.stopped().is_some() {
         return Outcome::Stopped;
     }
-    let core = replica.core();
-    answer(core.alloc, number, part_answer_body(core))
+    let alloc = replica.core().alloc;
+    if replica.keep_at_hand().is_err() {
+        return answer(alloc, number, AnswerBody::Memory);
+    }
+    answer(alloc, number, part_answer_body(replica.core(), offset))
 }
 
 /// A payload comes.

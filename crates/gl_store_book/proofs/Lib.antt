@@ -41,3 +41,16 @@ pub mod NodeFiles
 pub mod ServedNodes
 pub mod ValidSteps
 pub mod RestartLaws
+pub mod EvidentBodies
+pub mod ReceiptTexts
+pub mod ReceiptRanges
+pub mod ReceiptParts
+pub mod KeysKept
+pub mod KeysInForce
+pub mod SnapshotsGiven
+pub mod ServedSnapshots
+pub mod ReceiptCommits
+pub mod FilesAtHand
+pub mod MadeFiles
+pub mod FilesGrown
+pub mod ServedParts

@@ -42,7 +42,7 @@ at_most : (a b : ℕ) → nat_le a b ≡ true → a ≤ b
 at_most a b is = grind (arith, nat_tests, is)
 
 -- where the last entry is a signature the ledger ends with one
-signed_last : (ledger : List Entry) → is_signed (option_map last_of (last_entry ledger)) ≡ true → IsSignedUpTo ledger (length ledger)
+pub signed_last : (ledger : List Entry) → is_signed (option_map last_of (last_entry ledger)) ≡ true → IsSignedUpTo ledger (length ledger)
 signed_last [] is some = absurd (omega (arith, some))
 signed_last (x ∷ xs) is some = go (last_entry (x ∷ xs)) refl is
   where

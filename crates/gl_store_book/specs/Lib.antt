@@ -11,3 +11,5 @@ pub mod ViewVotes
 pub mod Replicas
 pub mod Restarts
 pub mod FromSnapshot
+pub mod VerifiedSnapshots
+pub mod AtHand

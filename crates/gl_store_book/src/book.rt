@@ -6,6 +6,7 @@ ghost use Rattle.gl_entry.specs.Entry.{is_signature};
 use crate::batch::batch;
 use crate::evidence::last_evidence;
 use crate::refusals::by_rule;
+use crate::snapshot_file::drop_if_cut;
 use crate::store_book::StoreBook;
 use gl_base::{OrNoMemory, TxId};
 use gl_config::{Configuration, NodeId};
@@ -209,12 +210,14 @@ impl Book for StoreBook {
     /// ledger.
     fn replace_tail(&mut self, seqno: u64, entries: &[Entry]) -> Result<(), OrNoMemory<Rejection>> {
         let high = seqno.max(self.ledger.tail().base());
+        drop_if_cut(&mut self.at_hand, &self.ledger, high);
         self.ledger.replace_tail(high, entries)
     }
 
     /// A seqno below the base counts as the base, as in `replace_tail`.
     fn cut(&mut self, to: u64) {
         let high = to.max(self.ledger.tail().base());
+        drop_if_cut(&mut self.at_hand, &self.ledger, high);
         self.ledger.cut(high);
     }
 }

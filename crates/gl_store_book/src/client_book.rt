@@ -10,8 +10,9 @@ ghost use Rattle.gl_receipt.specs.Made.{receipt_of};
 ghost use Rattle.gl_store_book.specs.BasedLedgers.{base_of, body_of, len_of};
 
 use crate::book_ledger::BookLedger;
+use crate::snapshot_file::{part_from, snapshot_bytes};
 use crate::store_book::StoreBook;
-use gl_answers::ClientBook;
+use gl_answers::{ClientBook, Part};
 use gl_base::{OrNoMemory, TxId};
 use gl_entry::Entry;
 use gl_merkle::Step;
@@ -20,9 +21,9 @@ use std::alloc::{AllocError, Global};
 
 /// The ledger of a node that is committed up to a seqno.
 #[derive(Clone, Copy)]
-struct CommittedBook<'a> {
-    ledger: &'a BookLedger,
-    commit: u64,
+pub(crate) struct CommittedBook<'a> {
+    pub(crate) ledger: &'a BookLedger,
+    pub(crate) commit: u64,
 }
 
 impl CommittedLedger for CommittedBook<'_> {
@@ -69,7 +70,7 @@ impl CommittedLedger for CommittedBook<'_> {
 }
 
 /// The receipt of a transaction by a ledger that is committed up to a seqno.
-fn receipt_by(
+pub(crate) fn receipt_by(
     alloc: Global,
     ledger: &CommittedBook<'_>,
     id: TxId,
@@ -89,6 +90,22 @@ impl ClientBook for StoreBook {
             commit,
         };
         receipt_by(self.alloc, &ledger, id)
+    }
+
+    fn snapshot_part(
+        &self,
+        commit: u64,
+        evidence: u64,
+        offset: u64,
+    ) -> Result<Option<Part>, AllocError> {
+        prove!(self.ledger.len() < 1 << 40);
+        if let Some(bytes) = self.bytes_at_hand(evidence) {
+            return Ok(Some(part_from(self.alloc, bytes, offset)?));
+        }
+        match snapshot_bytes(self.alloc, &self.ledger, commit, evidence)? {
+            None => Ok(None),
+            Some(bytes) => Ok(Some(part_from(self.alloc, &bytes, offset)?)),
+        }
     }
 
     fn keeps_limits(&self) {}

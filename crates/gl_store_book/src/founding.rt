@@ -27,6 +27,7 @@ impl StoreBook {
         ensures { OnOk result ((keys : NodeKeys) → HasKey keys self.old → self.new
             ≡ whole_store self.old.me self.old.key (opening_of keys genesis self.old.me)) }
     {
+        self.at_hand = None;
         self.ledger = WholeLedger::founded(self.alloc, genesis)?.into_ledger();
         let entry = self.signature_entry(0, FIRST_VIEW, 2)?;
         match self.ledger.apply(entry) {

@@ -6,6 +6,7 @@ ghost use Rattle.gl_store.specs.Tail.{ForBodies};
 ghost use Rattle.gl_store_book.specs.BasedLedgers.{begun_ledger};
 
 use crate::book_ledger::BookLedger;
+use crate::snapshot_file::made_file;
 use crate::store_book::StoreBook;
 use gl_replication::Snapshots;
 use gl_snapshot_body::Body;
@@ -13,7 +14,7 @@ use gl_store::LedgerTail;
 use std::alloc::{AllocError, Global};
 
 /// A seqno, or the one next to it that isn't below the base, nor above the last entry.
-fn within(tail: &LedgerTail, seqno: u64) -> u64
+pub(crate) fn within(tail: &LedgerTail, seqno: u64) -> u64
     ensures from_base { ForBodies tail.now (λ body. body.base ≤ result) }
     ensures within { ForBodies tail.now (λ body.
         result ≤ body.base + length tail.now.entries) }
@@ -56,6 +57,18 @@ impl Snapshots for StoreBook {
     }
 
     fn install(&mut self, body: Body) -> Result<(), AllocError> {
+        self.at_hand = None;
         begin(&mut self.ledger, self.alloc, body)
+    }
+
+    /// One that is at hand with this evidence stays. Another one is let go before the new one is
+    /// made.
+    fn keep_at_hand(&mut self, commit: u64, evidence: u64) -> Result<(), AllocError> {
+        if self.bytes_at_hand(evidence).is_some() {
+            return Ok(());
+        }
+        self.at_hand = None;
+        self.at_hand = made_file(self.alloc, &self.ledger, commit, evidence)?;
+        Ok(())
     }
 }

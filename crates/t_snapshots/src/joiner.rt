@@ -20,7 +20,7 @@ use std::alloc::Global;
 use std::test::*;
 
 /// A node with no entry, which no ledger records.
-fn joiner(alloc: Global) -> Option<Core<StoreBook>>
+pub fn joiner(alloc: Global) -> Option<Core<StoreBook>>
     ensures { IfSome result (λ core. StandsForSome Stands core) }
 {
     let key = LmsKey::make(alloc, [7; 32], Types::H5W4).ok()?;
@@ -57,7 +57,7 @@ fn installs(core: &mut Core<StoreBook>, body: Body) -> bool
 }
 
 /// A node with the whole ledger, of which the first 7 entries are committed.
-fn follower(alloc: Global, entries: &[Entry]) -> Option<Core<StoreBook>>
+pub fn follower(alloc: Global, entries: &[Entry]) -> Option<Core<StoreBook>>
     ensures { IfSome result (λ core. StandsForSome Stands core) }
 {
     let mut core = joiner(alloc)?;
@@ -70,7 +70,7 @@ fn follower(alloc: Global, entries: &[Entry]) -> Option<Core<StoreBook>>
 }
 
 /// A node that begins from the snapshot that another one offers.
-fn begun(alloc: Global, from: &Core<StoreBook>) -> Option<Core<StoreBook>>
+pub fn begun(alloc: Global, from: &Core<StoreBook>) -> Option<Core<StoreBook>>
     requires { StandsForSome Stands from.now }
 {
     let body = offered(from)?;
@@ -130,7 +130,7 @@ pub fn refuses(core: &Core<StoreBook>, view: u32, seqno: u64, fault: MakeFault) 
 }
 
 /// Whether it follows from the base 4 to the end of the ledger.
-fn follows(core: &mut Core<StoreBook>, tail: &LedgerTail) -> bool {
+pub fn follows(core: &mut Core<StoreBook>, tail: &LedgerTail) -> bool {
     let prev = TxId { view: 2, seqno: 4 };
     core.on_append([1; 32], 3, prev, entries_up_to(tail, 4, 9), 7)
         .is_ok()

@@ -1,6 +1,6 @@
 //! Tests of snapshots: their bodies against what a program in Python says of the same ledger, a
-//! ledger and a node that begin behind one, also from its file, and files of a snapshot that are
-//! whole, cut and changed.
+//! ledger and a node that begin behind one, also from its file, files of a snapshot that are whole,
+//! cut and changed, and the parts of one that a node gives.
 #![tactic(auto)]
 
 #[cfg(test)]
@@ -17,5 +17,7 @@ mod joiner;
 mod ledger;
 #[cfg(test)]
 mod owed;
+#[cfg(test)]
+mod parts;
 #[cfg(test)]
 mod reopened;

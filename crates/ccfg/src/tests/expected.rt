@@ -65,16 +65,22 @@ fn is_frame(
     })
 }
 
-/// Whether exactly these frames were sent.
+/// Whether exactly these frames were sent after so many first ones.
 fn are_sent(
     alloc: Global,
     past: &[Traffic],
+    first_frames: usize,
     output: &[Frame<'_>],
     lefts: &[Left],
 ) -> Result<bool, AllocError> {
+    let mut left = first_frames;
     let mut expected_output = output.iter();
     for traffic in past {
         if matches!(traffic, Traffic::Sent(_, _)) {
+            if left > 0 {
+                left = left.saturating_sub(1);
+                continue;
+            }
             let is_expected = match expected_output.next() {
                 Some(frame) => is_frame(alloc, traffic, frame, lefts)?,
                 None => false,
@@ -84,7 +90,7 @@ fn are_sent(
             }
         }
     }
-    Ok(expected_output.next().is_none())
+    Ok(left == 0 && expected_output.next().is_none())
 }
 
 /// Whether the disk is the expected one, as far as the row tells it.
@@ -122,7 +128,7 @@ pub fn difference(
         return Ok(Some("the disk"));
     }
     if let Some(frames) = run.sent
-        && !are_sent(alloc, &left.traffic, frames, lefts)?
+        && !are_sent(alloc, &left.traffic, run.first_frames, frames, lefts)?
     {
         return Ok(Some("what is sent"));
     }

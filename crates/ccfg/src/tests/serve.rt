@@ -309,6 +309,27 @@ const PUTS: Arrival<'static> = Bytes(
     )],
 );
 
+/// What a node behind a snapshot of 1,001 entries is asked: the status of 2.3, its receipt, and a
+/// part of a snapshot.
+const BELOW_BASE: &[Arrival<'static>] = &[
+    Payload(0, &[Hex("12 0100000000000000 02000000 0300000000000000")]),
+    Payload(0, &[Hex("13 0200000000000000 02000000 0300000000000000")]),
+    Payload(0, &[Hex("14 0300000000000000 0000000000000000")]),
+];
+
+/// Committed; 85 with the base; and 81 with the commit.
+const BELOW_BASE_ANSWERED: &[Frame<'static>] = &[
+    Frame::Payload(0, &[Hex("22 0100000000000000 02")]),
+    Frame::Payload(
+        0,
+        &[Hex("21 0200000000000000 5500 08000000 e903000000000000")],
+    ),
+    Frame::Payload(
+        0,
+        &[Hex("21 0300000000000000 5100 08000000 e903000000000000")],
+    ),
+];
+
 /// A leader makes evidence by itself. What it made is asked for after a stop: its file's last
 /// signature records the commit then.
 const EVIDENCES: &[Run<'static>] = &[
@@ -333,13 +354,32 @@ const EVIDENCES: &[Run<'static>] = &[
         ]),
         ..NODE
     },
-    // The second tick signs it, as 2.1003, and no more evidence is due.
+    // The second tick signs it, as 2.1003, and commits that, and no more evidence is due. Then parts
+    // of the snapshot are given: the whole of it from its start on, and none from above its end.
     Run {
         name: "a tick after evidence",
-        link: &[PUTS, Ticks(3)],
-        output: Output::Is(&[Text("served 998 lost 0\n")]),
+        link: &[
+            PUTS,
+            Ticks(1),
+            Payload(0, &[Hex("14 0100000000000000 0000000000000000")]),
+            Ticks(2),
+            Payload(0, &[Hex("14 0200000000000000 0000000000000000")]),
+            Payload(0, &[Hex("14 0300000000000000 ffffffffffffffff")]),
+        ],
+        output: Output::Is(&[Text("served 1001 lost 0\n")]),
+        first_frames: 998,
+        sent: Some(&[
+            // 81, with the commit, as the evidence isn't signed yet.
+            Frame::Payload(
+                0,
+                &[Hex("21 0100000000000000 5100 08000000 e903000000000000")],
+            ),
+            Frame::Begins(0, &[Hex("24 0200000000000000")]),
+            Frame::Begins(0, &[Hex("24 0300000000000000")]),
+        ]),
         ..BEGINNING
     },
+    // The commit that its file keeps is 2.1001: no signature above the evidence is committed.
     Run {
         name: "what stands after more ticks",
         disk: Some(&[All(Disk("a tick after evidence"))]),
@@ -347,13 +387,42 @@ const EVIDENCES: &[Run<'static>] = &[
             Payload(0, &[Hex("12 0100000000000000 02000000 e903000000000000")]),
             Payload(0, &[Hex("12 0200000000000000 02000000 eb03000000000000")]),
             Payload(0, &[Hex("12 0300000000000000 02000000 ec03000000000000")]),
+            Payload(0, &[Hex("14 0400000000000000 0000000000000000")]),
         ],
-        output: Output::Is(&[Text("served 3 lost 0\n")]),
+        output: Output::Is(&[Text("served 4 lost 0\n")]),
         sent: Some(&[
             Frame::Payload(0, &[Hex("22 0100000000000000 02")]),
             Frame::Payload(0, &[Hex("22 0200000000000000 01")]),
             Frame::Payload(0, &[Hex("22 0300000000000000 00")]),
+            Frame::Payload(
+                0,
+                &[Hex("21 0400000000000000 5100 08000000 e903000000000000")],
+            ),
         ]),
+        ..NODE
+    },
+    Run {
+        name: "a node that joins",
+        input: &[Times(&[7], 32)],
+        ..NODE_KEY
+    },
+    // It begins from what it was given. In that a frame's length has four bytes, a tag one, the
+    // number and the length of all eight, and that of the part four.
+    Run {
+        name: "a node that begins from a snapshot it was given",
+        input: &[Cut(Sent("a tick after evidence", 999), 25, 1_048_601)],
+        disk: Some(&[All(Disk("a node that joins"))]),
+        link: BELOW_BASE,
+        output: Output::Is(&[Text("served 3 lost 0\n")]),
+        sent: Some(BELOW_BASE_ANSWERED),
+        ..NODE
+    },
+    Run {
+        name: "a file behind a snapshot",
+        disk: Some(&[All(Disk("a node that begins from a snapshot it was given"))]),
+        link: BELOW_BASE,
+        output: Output::Is(&[Text("served 3 lost 0\n")]),
+        sent: Some(BELOW_BASE_ANSWERED),
         ..NODE
     },
 ];

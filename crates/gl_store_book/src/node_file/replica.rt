@@ -79,6 +79,7 @@ fn restarted(
         me,
         key,
         ledger,
+        at_hand: None,
     };
     Core::reopened(alloc, book, seat.view, seat.vote, u64::from(seat.reserved))
 }

@@ -2,6 +2,7 @@ use Rattle.std.proofs.Common.{max, ap, ◌∙◌}
 use Rattle.gl_store_book.specs.BasedLedgers.{BasedLedger, body_of}
 use Rattle.gl_store_book.specs.Stands.{NodeStore}
 use Rattle.gl_store_book.proofs.BookTaken.{cuts}
+use Rattle.gl_store_book.proofs.FilesAtHand.{at_hand_cut}
 use Rattle.gl_store_book.proofs.book.StoreBookBook.cut.Goals as goal
 
 pub returns-clause-becomes : goal.returns-clause-becomes
@@ -13,3 +14,6 @@ returns-clause-becomes c =
 
 pub returns-clause-snapshot : goal.returns-clause-snapshot
 returns-clause-snapshot c = ap (λ (l : BasedLedger). l.snapshot) c.cut.ensures ∙ ap (λ (n : NodeStore). n.ledger.snapshot) c.self.view_is
+
+pub invariant_of-self : goal.invariant_of-self
+invariant_of-self c = at_hand_cut c.self.inside.ledger c.cut.new.self c.self.inside.at_hand c.drop_if_cut.new.at_hand c.max-high.result c.cut.ensures c.drop_if_cut.ensures c.self.invariant

@@ -1,10 +1,11 @@
-use Rattle.std.proofs.Common.{ap, ◌∙◌}
+use Rattle.std.proofs.Common.{[], ◌∷◌, ap, ◌∙◌}
 use Rattle.std.proofs.lemmas.Result.{err_from_is_err_and}
 use Rattle.gl_base.specs.Answers.{Fails}
 use Rattle.gl_replication.specs.Standing.{At}
 use Rattle.gl_store_book.specs.BasedLedgers.{BasedLedger}
 use Rattle.gl_store_book.specs.Stands.{NodeStore, Stands}
 use Rattle.gl_store_book.proofs.BookTaken.{evidences, refuses_evidence}
+use Rattle.gl_store_book.proofs.FilesAtHand.{at_hand_more}
 use Rattle.gl_store_book.proofs.book.StoreBookBook.evidence.Goals as goal
 
 pub returns-in_err-evidence-clause-refused : goal.returns-in_err-evidence-clause-refused
@@ -23,3 +24,6 @@ returns-clause-made c =
 
 pub returns-clause-snapshot : goal.returns-clause-snapshot
 returns-clause-snapshot c = ap (λ (l : BasedLedger). l.snapshot) c.in_ok-evidence.ensures.made.entered ∙ ap (λ (n : NodeStore). n.ledger.snapshot) c.self.view_is
+
+pub invariant_of-self-2 : goal.invariant_of-self-2
+invariant_of-self-2 c = at_hand_more c.self.inside.ledger c.evidence.new.self (c.in_ok-evidence.ensures.made.entry ∷ []) c.self.inside.at_hand c.in_ok-evidence.ensures.made.entered c.self.invariant

@@ -1,4 +1,4 @@
-use Rattle.std.proofs.Common.{ap, ◌∙◌}
+use Rattle.std.proofs.Common.{[], ◌∷◌, ap, ◌∙◌}
 use Rattle.std.proofs.lemmas.Result.{err_from_is_err_and}
 use Rattle.gl_base.specs.Answers.{Fails}
 use Rattle.gl_ledger.specs.declared.response.Response.TheVariants.{Replied}
@@ -7,6 +7,7 @@ use Rattle.gl_store_book.specs.BasedLedgers.{BasedLedger}
 use Rattle.gl_store_book.specs.Stands.{NodeStore, Stands}
 use Rattle.gl_store_book.proofs.BookTaken.{executes, refuses_execute}
 use Rattle.gl_store_book.proofs.TakenEntries.{executed_fits}
+use Rattle.gl_store_book.proofs.FilesAtHand.{at_hand_more}
 use Rattle.gl_store_book.proofs.book.StoreBookBook.execute.Goals as goal
 
 pub returns-in_err-reply-clause-refused : goal.returns-in_err-reply-clause-refused
@@ -29,3 +30,6 @@ returns-clause-fits c =
 
 pub returns-clause-snapshot : goal.returns-clause-snapshot
 returns-clause-snapshot c = ap (λ (l : BasedLedger). l.snapshot) c.in_ok-reply.ensures.made.entered ∙ ap (λ (n : NodeStore). n.ledger.snapshot) c.self.view_is
+
+pub invariant_of-self-2 : goal.invariant_of-self-2
+invariant_of-self-2 c = at_hand_more c.self.inside.ledger c.execute.new.self (c.in_ok-reply.ensures.made.entry ∷ []) c.self.inside.at_hand c.in_ok-reply.ensures.made.entered c.self.invariant

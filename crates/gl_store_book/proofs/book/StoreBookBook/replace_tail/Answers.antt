@@ -3,6 +3,7 @@ use Rattle.gl_replication.proofs.Rows.{if_err, if_ok}
 use Rattle.gl_store_book.specs.BasedLedgers.{body_of}
 use Rattle.gl_store_book.specs.Stands.{NodeStore}
 use Rattle.gl_store_book.proofs.BookTaken.{kept_snapshot, replaces, replaces_not}
+use Rattle.gl_store_book.proofs.FilesAtHand.{at_hand_replaced}
 use Rattle.gl_store_book.proofs.book.StoreBookBook.replace_tail.Goals as goal
 
 pub returns-clause-replaced : goal.returns-clause-replaced
@@ -28,3 +29,8 @@ pub returns-clause-snapshot : goal.returns-clause-snapshot
 returns-clause-snapshot c =
     kept_snapshot c.replace_tail.result c.self.inside.ledger c.replace_tail.new.self c.max-high.result c.args.entries.now c.replace_tail.ensures.replaced c.replace_tail.ensures.err
     ∙ ap (λ (n : NodeStore). n.ledger.snapshot) c.self.view_is
+
+pub invariant_of-self : goal.invariant_of-self
+invariant_of-self c =
+    at_hand_replaced c.self.inside.ledger c.replace_tail.new.self c.self.inside.at_hand c.drop_if_cut.new.at_hand c.max-high.result c.args.entries.now c.replace_tail.result c.replace_tail.ensures.replaced
+    c.replace_tail.ensures.err c.drop_if_cut.ensures c.self.invariant

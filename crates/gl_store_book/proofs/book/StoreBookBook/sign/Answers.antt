@@ -8,6 +8,7 @@ use Rattle.gl_store_book.specs.Stands.{NodeStore}
 use Rattle.gl_store_book.specs.Taken.{signed}
 use Rattle.gl_store_book.proofs.AllLedgers.{book, held, reports, stands_with}
 use Rattle.gl_store_book.proofs.BookTaken.{refuses_sign, refuses_signed, signs}
+use Rattle.gl_store_book.proofs.FilesGrown.{at_hand_applied}
 use Rattle.gl_store_book.proofs.book.StoreBookBook.sign.Goals as goal
 
 -- the key has the leaf of whoever asks for a ledger that the store stands for
@@ -51,3 +52,6 @@ returns-clause-made c =
 
 pub returns-clause-snapshot : goal.returns-clause-snapshot
 returns-clause-snapshot c = ap (λ (l : BasedLedger). l.snapshot) c.in_default-apply.ensures.grown ∙ ap (λ (n : NodeStore). n.ledger.snapshot) c.self.view_is
+
+pub invariant_of-self-2 : goal.invariant_of-self-2
+invariant_of-self-2 c = at_hand_applied c.self.inside.ledger c.apply.new.self c.in_ok-entry.entry c.self.inside.at_hand c.apply.result c.apply.ensures.grown c.apply.ensures.err c.self.invariant
